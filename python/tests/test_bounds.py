@@ -76,11 +76,15 @@ def test_a_census_of_many_codes_is_linear():
     assert census.rows["code 5"].only == 1 and census.rows["code 5"].times == 3
 
 
-@pytest.mark.parametrize("words", [["--version"], ["check"], ["list"], ["canon"], ["canon", "--stream"], ["batch"]],
-                         ids=" ".join)
-def test_the_stack_that_the_manual_asks_for(naplps, words):
+STACKS = {"--version": b"", "batch": b"", "check": MACRO, "list": MACRO, "canon": MACRO, "canon --stream": MACRO,
+          "check --hex": MACRO.hex().encode(), "list --hex": MACRO.hex().encode(), "canon --hex": MACRO.hex().encode(),
+          "make": b"BELL\n", "make --stream": b"BELL\n"}
+
+
+@pytest.mark.parametrize("words, given", STACKS.items(), ids=STACKS)
+def test_the_stack_that_the_manual_asks_for(naplps, words, given):
     room = 192 << 10
-    said = subprocess.run([naplps, *words], input=b"" if words == ["batch"] else MACRO, capture_output=True, env={},
+    said = subprocess.run([naplps, *words.split()], input=given, capture_output=True, env={},
                           preexec_fn=lambda: resource.setrlimit(resource.RLIMIT_STACK, (room, room)))
     assert (said.returncode, said.stderr) == (0, b"")
 

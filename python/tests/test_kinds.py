@@ -43,10 +43,10 @@ def of_sources():
                       kinds)
     words.update({kind: f"{words[first]} {second}" for first, second, kind in more})
     ink = re.search(r"const INK: &\[Sort\] = &\[(.*)\];", kinds)[1]
-    least = dict(re.findall(r"least_points kinds\.(\w+) = (\d+)", text("crates/nap_make/specs/Kinds.antt")))
+    least = dict(re.findall(r"least_points Kind\.(\w+) = (\d+)", text("crates/nap_make/specs/Kinds.antt")))
     rows = dict.fromkeys(re.findall(r'b"([A-Z]+)" => Some\(Entry', text("crates/nap_make/src/reading.rt")), "")
-    for names, front, last in re.findall(r"((?:Kind::\w+[ |]+)+)=> Row::of\(\s*(INK|&\[.*?\]),\s*(Sort::\w+)", kinds):
-        row = " ".join(re.findall(r"Sort::(\w+)", f"{ink if front == 'INK' else front} {last}"))
+    for names, front, last in re.findall(r"((?:Kind::\w+[ |]+)+)=> Row::of\(\s*(INK|&\[.*?\]),\s*(\w+)", kinds):
+        row = " ".join(re.findall(r"(?:Sort::)?(\w+)", f"{ink if front == 'INK' else front} {last}"))
         for kind in re.findall(r"Kind::(\w+)", names):
             points = "Point " * int(least[kind]) + ".. " if kind in least else ""
             rows[words.pop(kind)] = points + row
@@ -57,7 +57,7 @@ def of_sources():
 def test_the_table_is_that_of_the_sources():
     assert of_sources() == KINDS
     choices = re.findall(r'b"(\w+)" => Some\((?:CharSet|CursorKind|Mask|TextStep)::',
-                         text("crates/nap_make/src/choice.rt"))
+                         text("crates/nap_make/src/attribute.rt"))
     assert sorted(choices) == sorted(name for names in CHOICES.values() for name in names)
 
 

@@ -1,16 +1,12 @@
-use Rattle.std.proofs.Common.{ℕ, ◌≡◌, ◌≢◌, ◌⊎◌, List, [], length, Result, Ok, Err, refl, ap, subst, ◌∙◌, inl, inr, arith}
-use Rattle.std.specs.Prelude.{MatchResult}
-use Rattle.nap_reader.specs.declared.fault.Fault.{Fault}
-use Rattle.nap_reader.specs.declared.fault.Fault.TheVariants as fault
-use Rattle.nap_reader.specs.declared.fault.Refusal.{Refusal}
-use Rattle.nap_command.specs.Answers.{IsPlaced, places}
-use Rattle.nap_c.specs.declared.answer.Answer.{Answer}
-use Rattle.nap_c.specs.Answers.{AnswersInBudget, CountsInBudget, Offers, accepted_answer, ended_answer, refused_answer}
-use Rattle.nap_c.specs.Texts.{IsRefusal, IsTextOf, LacksForText, LacksToCount}
-
-is_memory : (f : Fault) → (f ≡ fault.Memory) ⊎ (f ≢ fault.Memory)
-is_memory fault.Memory = inl refl
-is_memory f = inr (λ is. let bad : ⊥ = cc in bad)
+use Rattle.nap_c.proofs.Common.{Answer, AnswersInBudget, Bool, CountSink, CountsInBudget, Entry, Err, Fault, Ghosts, IsGiven, IsPlaced, IsRefusal, IsTextOf, LacksForText, LacksToCount, LacksWithin, List, Made, MatchResult, Offers, Ok, Refusal, Result, Uncounted, [], accepted_answer, ap, ap₂, arith, ended_answer, false, inl, inr, length, length-append, list_of, means, places, refl, refused_answer, subst, sym, text, ℕ, ◌^◌, ◌∙◌, ◌≡◌, ◌≢◌, ◌≤◌, ◌⊎◌}
+use Rattle.nap_command.proofs.PublicLaws.{is_memory}
+use Rattle.std.proofs.lemmas.Bool.{false≢true}
+use Rattle.nap_c.specs.Answers.{AnswersMaking, offered_answer}
+use Rattle.nap_canon.specs.PageTexts.{IsPageText}
+use Rattle.nap_canon.specs.declared.text.PageText.{PageText}
+use Rattle.nap_make.specs.Texts.{IsPageMade}
+use Rattle.nap_make.specs.declared.page.MadePage.{MadePage}
+use Rattle.nap_reader.specs.Collecting.{IsRead, LacksMemoryFor}
 
 -- the answer with the text of a page, or with the reason why there is none
 pub answers_text : {V : Type 0} (items : V → List ℕ) (budget : ℕ) (p : List ℕ) (CanLack : ℕ → Type 0) (whole old new : List ℕ) (a : Answer) (found : Result V Refusal) →
@@ -75,3 +71,36 @@ answers_uncounted budget p f place a is says =
           }))
       | inr apart ↦ inr (inl (record { refusal = record { fault = f; place = place }; own = apart; refused = is.refused apart; answer = says }))
     ]
+
+-- A page whose entries were counted is refused.
+module _ (g : Ghosts CountSink) (s : CountSink) (none : s.count ≡ 0) (wants_is : (d : List Entry) → g.wants s d → Uncounted s d) (sound : (t : CountSink) → g.failed t ≡ false) (budget : ℕ) (p : List ℕ) where
+  own : (place : ℕ) → LacksMemoryFor g s budget p place → LacksWithin budget p place ⊎ (2 ^ 64 ≤ length (means budget p).entries)
+  own place (inl reader) = inl reader
+  own place (inr (first, rest, parts, wants)) = inr (let all = ap length parts in omega (arith, wants_is first wants, none, all, length-append first rest))
+
+  pub refused_to_count : (f : Fault) (place : ℕ) → IsRead g s budget p (Err (record { fault = f; place = place })) →
+      IsRefusal budget p (LacksToCount budget p) (record { fault = f; place = place })
+  refused_to_count Fault.Memory place h = record { refused = λ no. absurd (no refl); memory = λ _. record { breaks = h.collects.0; own = own place h.collects.1 } }
+  refused_to_count Fault.Sink place h = let (breaks, (t, failed, took)) = h.collects in absurd (false≢true (sym (sound t) ∙ failed))
+  refused_to_count f place h = record { refused = λ _. h.collects; memory = λ is. let bad : ⊥ = cc in absurd bad }
+
+-- the canonical text of a page was made, or refused
+pub text_made : {V : Type 0} (items : V → List ℕ) (budget : ℕ) (p : List ℕ) (found : Result PageText Refusal) (result : Result V Refusal) → IsPageText budget p found →
+    MatchResult found (λ t. MatchResult result (λ made. items made ≡ t.text.items) (λ r. ⊥)) (λ r. result ≡ Err r) →
+    MatchResult result (λ made. IsTextOf budget p (text (list_of budget p)) (items made)) (IsRefusal budget p (LacksForText budget p))
+text_made items budget p (Ok t) (Ok made) h is = record { accepted = h.0.accepted; text_is = is ∙ h.0.text_is }
+text_made items budget p (Ok t) (Err r) h is = absurd is
+text_made items budget p (Err r) result h is = rw is (record { refused = h.refused; memory = λ wants. inl (h.memory wants) })
+
+-- The page that lines make was copied to a room, or the room is too small for it.
+
+pub answers_page : (p old new text : List ℕ) (page : MadePage) (gave given : Bool) (answer : Made) → IsPageMade p page → text ≡ page.text.items → IsGiven text old new gave → gave ≡ given →
+    answer ≡ offered_answer given (length text) page.count → AnswersMaking p old new answer
+answers_page p old new text page gave given answer made same gives is says =
+    inl (record {
+      page = page.text.items;
+      made = made.0;
+      given = given;
+      room = subst (λ (bytes : List ℕ). IsGiven bytes old new given) same (subst (λ (b : Bool). IsGiven text old new b) is gives);
+      answer_is = says ∙ ap₂ (offered_answer given) (ap length same) made.1;
+    })

@@ -1,30 +1,16 @@
-use Rattle.std.proofs.Common.{ℕ, ◌≡◌, ◌≢◌, ◌⊎◌, ◌<◌, ◌≤◌, ◌^◌, List, [], ◌++◌, Option, Some, None, Result, Ok, Err, length, take, get_or, refl, ap, sym, subst, ◌∙◌, inl, inr, append-nil, length-append, arith}
+use Rattle.nap_c.proofs.Common.{Answers, AnswersBy, BreaksInRun, CountSink, Entry, Err, Fault, Ghosts, HasRead, IsBroken, IsRefusal, IsTaken, LacksToCount, List, None, Ok, Option, Outcome, Refusal, Result, Some, StopsBy, Uncounted, [], ap, append-nil, arith, begun, begun_comes_first, budget_of, cause_of, end_breaks_among, fed_breaks_among, get_or, inl, inr, left_of, length, length-append, means, refl, refusal_of, sink_of, subst, sym, take, uncounted, ℕ, ◌++◌, ◌<◌, ◌^◌, ◌∙◌, ◌≡◌, ◌≢◌, ◌≤◌, ◌⊎◌}
+use Rattle.nap_command.proofs.PublicLaws.{still_refused}
 use Rattle.std.proofs.lemmas.List.{take-append-le, get_or_append_left}
 use Rattle.nap_draw.specs.Draws.{Cause, stream, memory, device}
-use Rattle.nap_list.specs.declared.count_sink.CountSink.{CountSink}
-use Rattle.nap_list.specs.declared.entry.Entry.{Entry}
-use Rattle.nap_list.specs.declared.sink.Sink.{Ghosts}
-use Rattle.nap_list.specs.Counting.{Uncounted}
-use Rattle.nap_reader.specs.declared.fault.Fault.{Fault}
-use Rattle.nap_reader.specs.declared.fault.Fault.TheVariants as fault
-use Rattle.nap_reader.specs.declared.fault.Refusal.{Refusal}
 use Rattle.nap_reader.specs.declared.reader.Reader.{Reader}
 use Rattle.nap_reader.specs.declared.reader.Stopped.{Stopped}
-use Rattle.nap_reader.specs.Breaking.{BreaksInRun, cause_of}
 use Rattle.nap_reader.specs.Laws.{BreaksAmong, WantsSome}
-use Rattle.nap_reader.specs.ReaderAnswers.{Answers, AnswersBy, IsBroken, IsTaken, HasRead, StopsBy, budget_of, left_of, refusal_of, sink_of}
-use Rattle.nap_reader.specs.Stream.{Outcome, begun, ended_by, means}
-use Rattle.nap_reader.proofs.PublicLaws.{begun_comes_first, end_breaks_among, fed_breaks_among, more_bytes_keep_refusal}
-use Rattle.nap_c.specs.Checks.{uncounted}
-use Rattle.nap_c.specs.Texts.{IsRefusal, LacksToCount}
 
-pub device_fault : (f : Fault) → cause_of f ≡ device → f ≡ fault.Sink
-device_fault fault.Sink is = refl
-device_fault _ is = let bad : ⊥ = cc in absurd bad
+pub device_fault : (f : Fault) → cause_of f ≡ device → f ≡ Fault.Sink
+device_fault f is = grind arith
 
-memory_fault : (f : Fault) → cause_of f ≡ memory → f ≡ fault.Memory
-memory_fault fault.Memory is = refl
-memory_fault _ is = let bad : ⊥ = cc in absurd bad
+memory_fault : (f : Fault) → cause_of f ≡ memory → f ≡ Fault.Memory
+memory_fault f is = grind arith
 
 pub none_or_some : {X : Type 0} (o : Option X) → (o ≡ None) ⊎ ((x : X) × (o ≡ Some x))
 none_or_some None = inl refl
@@ -38,12 +24,6 @@ refusal_or other (Err stopped) = stopped.refusal
 pub same_refusal : {X S : Type 0} (found : Result X (Stopped S)) (a b : Stopped S) → found ≡ Err a → found ≡ Err b → a.refusal ≡ b.refusal
 unfolding refusal_or
 same_refusal found a b one two = ap (refusal_or a.refusal) (sym one ∙ two)
-
--- a page that is refused so far is refused whatever follows
-refused_on : (budget : ℕ) (p more : List ℕ) (r : Refusal) → (begun budget p).refusal ≡ Some r → (means budget (p ++ more)).refusal ≡ Some r
-refused_on budget p more r is =
-    let all = ap (λ (o : Outcome). o.refusal) (more_bytes_keep_refusal budget p more r is) ∙ is in
-    ap (λ (q : Option Refusal). (ended_by (begun budget (p ++ more)) (length (p ++ more)) q).refusal) all ∙ all
 
 -- Why a page that is checked in pieces is refused, under this budget.
 module _ {g : Ghosts CountSink} (wants_is : (d : List Entry) → g.wants uncounted d → Uncounted uncounted d) (reader : Reader CountSink g) (budget : ℕ) (same : budget_of reader ≡ budget)
@@ -70,7 +50,7 @@ module _ {g : Ghosts CountSink} (wants_is : (d : List Entry) → g.wants uncount
   own q is refused = record { refused = λ _. refused; memory = λ wants. let bad : stream ≡ memory = sym is ∙ ap cause_of wants in absurd cc }
 
   -- The page was refused before its end, and more bytes follow.
-  module _ (some : refusal_of reader ≡ Some r) (sound : r.fault ≢ fault.Sink) (more : List ℕ) where
+  module _ (some : refusal_of reader ≡ Some r) (sound : r.fault ≢ Fault.Sink) (more : List ℕ) where
     known : AnswersBy g uncounted budget p (sink_of reader) (left_of reader) r (cause_of r.fault)
     known =
         subst (λ (b : ℕ). AnswersBy g uncounted b p (sink_of reader) (left_of reader) r (cause_of r.fault)) same
@@ -88,7 +68,7 @@ module _ {g : Ghosts CountSink} (wants_is : (d : List Entry) → g.wants uncount
 
     why : (cause : Cause) → cause_of r.fault ≡ cause → AnswersBy g uncounted budget p (sink_of reader) (left_of reader) r cause →
         IsRefusal budget (p ++ more) (LacksToCount budget (p ++ more)) r
-    why stream is here = own (p ++ more) is (refused_on budget p more r here.refusal)
+    why stream is here = own (p ++ more) is (still_refused budget p more r here.refusal)
     why memory is (i, within, broken) =
         let (added_entries, joins) = begun_comes_first budget (p ++ more) in
         lacks (p ++ more) (begun budget (p ++ more)).entries added_entries (sink_of reader) joins (begun budget (p ++ more)) refl (begun budget []).entries (among i within is broken) is
@@ -99,7 +79,7 @@ module _ {g : Ghosts CountSink} (wants_is : (d : List Entry) → g.wants uncount
 
   -- The page is refused at its end.
   module _ (t : CountSink) (unrefused : refusal_of reader ≡ None) (refused : cause_of r.fault ≡ stream → IsTaken g uncounted (means (budget_of reader) p) t (Some r))
-      (breaks : cause_of r.fault ≢ stream → BreaksInRun g uncounted (budget_of reader) p t r) (sound : r.fault ≢ fault.Sink) where
+      (breaks : cause_of r.fault ≢ stream → BreaksInRun g uncounted (budget_of reader) p t r) (sound : r.fault ≢ Fault.Sink) where
     before : (begun budget p).refusal ≡ None
     before = subst (λ (b : ℕ). (begun b p).refusal ≡ None) same (subst (Answers g uncounted (budget_of reader) p (sink_of reader) (left_of reader)) unrefused has_read.answers).refusal
 

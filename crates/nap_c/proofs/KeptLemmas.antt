@@ -1,29 +1,14 @@
 -- The machine value of a `Checking`, taken apart and put together.
-use Rattle.std.proofs.Common.{◌≡◌, ℕ, List, [], ◌∷◌, ◌++◌, refl, subst, lit<}
-use lib.Dec.{T}
-use seplogic.Ra.Ura.{Ura}
+use Rattle.nap_c.proofs.Common.{Goal, Item, List, Logic, None, Ptr, RawPtr, Seq, Some, Step, T, Testable, Ura, Val, Valss, WT, [], block_ptr, drop, ent, feq_i, feq_l, fjoin, fpack, fpick, fsplit, given, guard, guard_i, has_ty, learn, lies_at, lit<, lone, nothing, null_ptr, of_list, ptr_val, refl, sem, shape, snd∗, step, subst, ty_ptr, use1, vcons, via, vnil, vstruct, within, ‵, ℕ, ◌$◌, ◌++◌, ◌∷◌, ◌≡◌}
 use mir.Raw.{raw as bare}
-use mir.Syntax.{ty_ptr}
-use mir.Val.{Val, has_ty, WT, vstruct, vcons, vnil, of_list}
 use base.Fraction.{full_share}
-use base.Logic.{ent, guard, via, snd∗, guard_i}
 use base.Fml.{ftrue, fsep}
-use types.Logic.{Logic, sem}
-use types.Kit.{Item, Goal, Seq, Step, step, ‵, given, ◌$◌, drop, use1, learn, fsplit, fjoin, fpick, fpack, feq_i, feq_l}
 use contract.Monad.{fact_use}
-use denote.RattleType.{Valss}
-use denote.Builtin.{RawPtr}
-use denote.Memory.{lone}
-use denote.RawPtr.{Ptr, block_ptr, null_ptr, ptr_val, lies_at, Testable}
-use denote.Steps.{nothing}
-use denote.Struct.Struct.{within}
-use denote.Struct.Owning.{shape}
 use Rattle.std.proofs.GlobalToken.{dealloc_token-Testable}
 use Rattle.std.specs.declared.alloc.Global.{Global}
 use Rattle.std.specs.declared.option.Option.{Option}
-use Rattle.std.specs.declared.option.Option.TheVariants.{None, Some}
 use Rattle.std.specs.contracts.impls.GlobalAllocator.TheImpl.{ghosts}
-use Rattle.nap_c.specs.contracts.check.Check as check
+use Rattle.nap_c.specs.contracts.pieces.Check as check
 use Rattle.nap_c.specs.contracts.checking.Checking as checking
 use Rattle.nap_c.specs.Kept.{box_at, page_at, as_formula}
 

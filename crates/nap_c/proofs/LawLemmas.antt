@@ -1,16 +1,9 @@
 -- The library and `batch` answer alike.
 
-use Rattle.std.proofs.Common.{ℕ, ◌≡◌, ◌≤◌, ◌∙◌, List, None, Some, inl, inr, length, sym, subst, arith}
-use Rattle.nap_reader.specs.declared.fault.Refusal.{Refusal}
+use Rattle.nap_c.proofs.Common.{Answer, AnswersCall, AnswersCount, AnswersNoBudget, AnswersPage, IsAccepted, List, None, Offers, Refusal, Some, accepted_answer, accepted_body_of, arith, inl, inr, length, means, refused_answer, refused_body_of, subst, sym, ℕ, ◌∙◌, ◌≡◌, ◌≤◌}
 use Rattle.nap_reader.specs.Budgets.{most_budget}
-use Rattle.nap_reader.specs.Stream.{means}
-use Rattle.nap_canon.specs.Streams.{IsAccepted}
 use Rattle.nap_command.specs.declared.batch.request.Question.{Question}
-use Rattle.nap_command.specs.declared.batch.request.Question.TheVariants as question
-use Rattle.nap_command.specs.Answers.{AnswersPage, accepted_body_of, refused_body_of}
-use Rattle.nap_c.specs.declared.answer.Answer.{Answer}
-use Rattle.nap_c.specs.Answers.{AnswersCall, AnswersCount, AnswersNoBudget, Offers, accepted_answer, refused_answer}
-use Rattle.nap_c.specs.Laws.{AgreeOnCount, AgreeOnText, LibraryAnswersAsBatch}
+use Rattle.nap_c.specs.Answers.{AgreeOnCount, AgreeOnText, LibraryAnswersAsBatch}
 
 module _ (budget : ℕ) (p : List ℕ) where
   -- no page is both accepted and refused
@@ -26,7 +19,7 @@ module _ (budget : ℕ) (p : List ℕ) where
   not_denied a most h = absurd (omega (arith, most, h.above))
 
   module _ (line body old new : List ℕ) (a : Answer) (most : budget ≤ most_budget) where
-    count_alike : AnswersPage question.Check budget p line body → AnswersCount budget p a → AgreeOnCount line a
+    count_alike : AnswersPage Question.Check budget p line body → AnswersCount budget p a → AgreeOnCount line a
     count_alike (inl h) (inl (fits, inl k)) = inl (record { count = _; line_is = h.line_is; answer = k.answer })
     count_alike (inl h) (inl (fits, inr (inl k))) = absurd (not_both k.refusal h.accepted k.refused)
     count_alike (inl h) (inl (fits, inr (inr k))) = inr (inr (record { place = k.place; answer = inr k.answer }))
@@ -53,8 +46,8 @@ module _ (budget : ℕ) (p : List ℕ) where
     text_alike q CanLack answered (inr (denied, same)) = absurd (not_denied a most denied)
 
 pub library_answers_as_batch : LibraryAnswersAsBatch
-library_answers_as_batch question.Check budget p line body old new a most = count_alike budget p line body old new a most
-library_answers_as_batch question.List budget p line body old new a most = text_alike budget p line body old new a most question.List _
-library_answers_as_batch question.Canon budget p line body old new a most = text_alike budget p line body old new a most question.Canon _
-library_answers_as_batch question.Places budget p line body old new a most = text_alike budget p line body old new a most question.Places _
-library_answers_as_batch question.Make budget p line body old new a most = λ asked given. absurd given
+library_answers_as_batch Question.Check budget p line body old new a most = count_alike budget p line body old new a most
+library_answers_as_batch Question.List budget p line body old new a most = text_alike budget p line body old new a most Question.List _
+library_answers_as_batch Question.Canon budget p line body old new a most = text_alike budget p line body old new a most Question.Canon _
+library_answers_as_batch Question.Places budget p line body old new a most = text_alike budget p line body old new a most Question.Places _
+library_answers_as_batch Question.Make budget p line body old new a most = λ asked given. absurd given

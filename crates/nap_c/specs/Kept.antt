@@ -8,7 +8,7 @@ use Rattle.std.specs.declared.option.Option.{Option}
 use Rattle.std.specs.declared.option.Option.TheVariants.{None, Some}
 use Rattle.std.specs.declared.alloc.Global.{Global}
 use Rattle.std.specs.contracts.impls.GlobalAllocator.TheImpl.{ghosts}
-use Rattle.nap_c.specs.contracts.check.Check.{the_row}
+use Rattle.nap_c.specs.contracts.pieces.Check.{the_row}
 
 -- What C keeps of a page that is checked in pieces.
 

@@ -1,10 +1,24 @@
 //! Answers of the library for C (docs/LIBRARY.md).
 ghost use Rattle.std.specs.Prelude.{◌≡◌, length, MatchResult};
-ghost use Rattle.nap_c.specs.Answers.{IsGiven, Offers, accepted_answer, no_budget_answer, ended_answer, not_begun_answer, refused_answer};
+ghost use Rattle.nap_c.specs.Answers.{IsGiven, Offers, accepted_answer, ended_answer, no_budget_answer, not_begun_answer, refused_answer, zero_padded};
+ghost use Rattle.nap_command.specs.Failures.{fault_text};
 
-use crate::name::{NAME, padded_name};
 use nap_command::batch::PlacesText;
-use nap_reader::Refusal;
+use nap_command::fault_name;
+use nap_reader::{Fault, Refusal};
+
+/// The number of bytes that an answer has for a name, its final zero included.
+pub(crate) const NAME: usize = 32;
+
+/// Returns the name of a refusal, padded with zeros.
+pub(crate) fn padded_name(fault: Fault) -> [u8; NAME]
+    ensures { result ≡ zero_padded (fault_text fault) }
+{
+    let text = fault_name(fault).as_bytes();
+    let mut name = [0; NAME];
+    name[..text.len()].copy_from_slice(text);
+    name
+}
 
 /// Status: the page is accepted.
 pub(crate) const ACCEPTED: u32 = 0;

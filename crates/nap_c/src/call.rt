@@ -1,19 +1,76 @@
 //! The calls of the library on a page in memory (docs/LIBRARY.md).
-ghost use Rattle.std.specs.Prelude.{◌≡◌, ◌↔◌, IsTrue};
+ghost use Rattle.std.specs.Prelude.{◌≡◌, ◌↔◌, IsTrue, Err, MatchResult};
 ghost use Rattle.nap_reader.specs.Breaking.{BreaksWithin};
 ghost use Rattle.nap_canon.specs.Plain.{IsPlain};
 ghost use Rattle.nap_canon.specs.Streams.{list_of};
 ghost use Rattle.nap_canon.specs.Text.{text, text1};
 ghost use Rattle.nap_lines.specs.Listing.{lines};
-ghost use Rattle.nap_c.specs.Answers.{AnswersCount, AnswersPlaces, AnswersText};
-ghost use Rattle.nap_c.specs.Texts.{LacksForText};
+ghost use Rattle.nap_c.specs.Answers.{AnswersCount, AnswersPlaces, AnswersText, IsRefusal, IsTextOf, LacksForText, memory_refusal_at_end};
 
 use crate::answer::{Answer, answer_placed, answer_text};
-use crate::text::{canon_text, form1_text, list_text, memory_refusal_at_end};
+use nap_canon::{CanonFault, PageText, canon_form1, page_text};
 use nap_command::batch::read_places;
+use nap_lines::LineSink;
 use nap_list::CountSink;
-use nap_reader::{Budget, read_stream};
+use nap_reader::{Budget, Fault, Refusal, read_all, read_stream};
 use std::alloc::{AllocError, Global};
+
+/// Returns the refusal for lack of memory for a text, which is placed at the end of the page.
+pub(crate) fn memory_refusal_at_end(page: &[u8]) -> Refusal
+    ensures { result ≡ memory_refusal_at_end page.now }
+{
+    Refusal {
+        fault: Fault::Memory,
+        place: page.len() as u64,
+    }
+}
+
+/// Returns the lines of a page's entries, or its refusal.
+pub(crate) fn list_text(alloc: Global, budget: Budget, page: &[u8]) -> Result<Vec<u8>, Refusal>
+    ensures { MatchResult result
+        (λ found. IsTextOf budget page.now (lines (list_of budget page.now)) found.items)
+        (IsRefusal budget page.now (BreaksWithin budget page.now)) }
+{
+    let sink = read_stream(alloc, budget, page, LineSink::new(alloc))?;
+    Ok(sink.into_text())
+}
+
+/// Returns the text that was made of a page, or its refusal.
+fn text_of_page(found: Result<PageText, Refusal>) -> Result<Vec<u8>, Refusal>
+    ensures { MatchResult found (λ t. MatchResult result (λ text. text.items ≡ t.text.items) (λ r. ⊥)) (λ r. result ≡ Err r) }
+{
+    match found {
+        Ok(found) => Ok(found.text),
+        Err(refusal) => Err(refusal),
+    }
+}
+
+/// Returns the canonical text of a page, or its refusal.
+pub(crate) fn canon_text(alloc: Global, budget: Budget, page: &[u8]) -> Result<Vec<u8>, Refusal>
+    ensures { MatchResult result
+        (λ found. IsTextOf budget page.now (text (list_of budget page.now)) found.items)
+        (IsRefusal budget page.now (LacksForText budget page.now)) }
+{
+    match page_text(alloc, budget, page) {
+        Ok(found) => text_of_page(found),
+        Err(AllocError) => Err(memory_refusal_at_end(page)),
+    }
+}
+
+/// Returns the text of a page's list in form 1, or its refusal.
+pub(crate) fn form1_text(alloc: Global, budget: Budget, page: &[u8]) -> Result<Vec<u8>, Refusal>
+    ensures { MatchResult result
+        (λ found. IsTextOf budget page.now (text1 (list_of budget page.now)) found.items)
+        (IsRefusal budget page.now (LacksForText budget page.now)) }
+{
+    let list = read_all(alloc, budget, page)?;
+    match canon_form1(alloc, &list) {
+        Ok(text) => Ok(text),
+        Err(CanonFault::Memory) => Err(memory_refusal_at_end(page)),
+        // The list of an accepted page is legal.
+        Err(CanonFault::Illegal(_)) => unreachable!(),
+    }
+}
 
 /// Counts the entries of a page.
 #[unsafe(no_mangle)]

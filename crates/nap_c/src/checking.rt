@@ -2,15 +2,44 @@
 ghost use Rattle.std.specs.Prelude.{◌≡◌, None, Some};
 ghost use Rattle.std.specs.Option.{MatchOption};
 ghost use Rattle.std.specs.declared.option.Option.{Option};
-ghost use Rattle.nap_c.specs.declared.check.Check.{Check};
+ghost use Rattle.std.specs.Box.Ownership.{box_owns};
+ghost use Rattle.nap_c.specs.declared.pieces.Check.{Check};
 ghost use Rattle.nap_c.specs.Kept.{check_coded, page_at};
 
-use crate::check::Check;
-use crate::raw_box::RawBox;
-use std::alloc::Global;
+use crate::pieces::Check;
+use std::alloc::{Allocator, Global};
 use std::marker::Model;
 use std::mem::replace;
 use std::ptr::null_mut;
+
+/// The pointer of a box, which it owns, and the allocator that frees it.
+pub struct RawBox<T, A: Allocator> {
+    pub(crate) at: *mut T,
+    pub(crate) alloc: A,
+    pub(crate) ghost value: { T },
+}
+
+impl<T, A: Allocator> Model for RawBox<T, A> {
+    ghost also_owns = { λ l. box_owns (A.dealloc_token l.alloc) T.row l.at l.value };
+}
+
+impl<T: Drop, A: Allocator> RawBox<T, A> {
+    /// Takes a box apart.
+    pub(crate) fn from_box(value: Box<T, A>) -> RawBox<T, A>
+        ensures { result.value ≡ value.value }
+    {
+        let (at, alloc) = Box::into_raw_with_allocator(value);
+        RawBox { at, alloc }
+    }
+
+    /// Makes the box again.
+    pub(crate) fn into_box(self) -> Box<T, A>
+        ensures { result.value ≡ self.value }
+    {
+        let RawBox { at, alloc } = self;
+        unsafe { Box::from_raw(alloc, at) }
+    }
+}
 
 /// A page that is checked in pieces, if one is begun: null, or a pointer to a box.
 #[repr(C)]

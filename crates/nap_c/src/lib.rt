@@ -3,14 +3,10 @@
 
 mod answer;
 mod call;
-mod check;
 mod checking;
 pub mod laws;
 mod made;
-mod name;
 mod pieces;
-mod raw_box;
-mod text;
 
 pub use answer::Answer;
 pub use call::{

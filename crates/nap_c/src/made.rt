@@ -1,6 +1,6 @@
 //! Answers for lines that make a page.
 ghost use Rattle.std.specs.Prelude.{◌≡◌};
-ghost use Rattle.nap_c.specs.Lines.{AnswersMaking, made_answer, answer_of_fault, unmade_answer};
+ghost use Rattle.nap_c.specs.Answers.{AnswersMaking, answer_of_fault, made_answer, unmade_answer};
 
 use crate::answer::{ACCEPTED, REFUSED, SMALL, copy_if_fits};
 use nap_make::{MakeFault, page_of_lines};

@@ -1,7 +1,7 @@
 -- The proofs of the laws.
 
-use Rattle.nap_list.specs.declared.device.outlet.Outlet as outlet
-use Rattle.nap_canon.specs.declared.form.Form.TheVariants.{One, Two}
+use Rattle.nap_list.specs.declared.device.Outlet as outlet
+use Rattle.nap_canon.specs.declared.text.Form.TheVariants.{One, Two}
 use Rattle.nap_canon.proofs.Common.{CanonicalStreamsAgree, FormsAgree, PlainOperandLengths, PreludeLeads, TextIsPlain, TextIsRead, TextLeads, TextOfPrefix, WritesText}
 use Rattle.nap_canon.proofs.operand_lengths.ActingLemmas as acting
 use Rattle.nap_canon.proofs.reading_back.CanonicalLaws as canonical
@@ -10,6 +10,10 @@ use Rattle.nap_canon.proofs.prelude.ModeLemmas as modes
 use Rattle.nap_canon.proofs.plain_codes.PlainTexts as plain_texts
 use Rattle.nap_canon.proofs.sinks.SinkingLemmas as sinks
 use Rattle.nap_canon.proofs.texts.TextLemmas as texts
+pub use Rattle.nap_canon.proofs.conversions.ConvertLemmas.{flushed_once}
+pub use Rattle.nap_canon.proofs.prelude.CurrentLemmas.{look_is_current}
+pub use Rattle.nap_canon.proofs.texts.PointsLemmas.{addr_size, grb_size, point_size}
+pub use Rattle.nap_canon.proofs.texts.WriterLemmas.{displacements_size, move_size}
 
 pub prelude_leads : PreludeLeads
 prelude_leads = modes.prelude_leads

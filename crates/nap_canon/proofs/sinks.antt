@@ -6,4 +6,3 @@ pub mod CutLemmas
 pub mod JoinLemmas
 pub mod PrefixLemmas
 pub mod PutLemmas
-pub mod StartLemmas

@@ -1,15 +1,7 @@
-use Rattle.std.specs.Prelude.{ℕ, zero, suc, ◌≡◌, ◌≢◌, ◌+◌, List, [], ◌∷◌, ◌++◌, length, map, All}
-use Rattle.nap_values.specs.Domains.{OperandLengths}
-use Rattle.nap_codes.specs.declared.code.Code.{Code}
-use Rattle.nap_codes.specs.declared.code.Code.TheVariants as code
-use Rattle.nap_codes.specs.declared.opcode.Opcode.{Opcode}
-use Rattle.nap_codes.specs.declared.opcode.Opcode.TheVariants as opcodes
-use Rattle.nap_codes.specs.CodeSets.{start_sets}
+use Rattle.std.specs.Prelude.{All, List, [], length, map, suc, zero, ℕ, ◌++◌, ◌+◌, ◌∷◌, ◌≡◌, ◌≢◌}
+use Rattle.nap_canon.specs.Names.{Code, Machine, Mode, Opcode, OperandLengths, Placed, StreamFront, between, bytes_of, in_body, lex_result, placed_from, start_machine, start_sets, steps_left, stream_front}
 use Rattle.nap_codes.specs.Front as codes
-use Rattle.nap_codes.specs.LexResults.{lex_result}
-use Rattle.nap_reader.specs.Bodies.{Mode, between, in_body}
 use Rattle.nap_reader.specs.Course as course
-use Rattle.nap_reader.specs.Stream.{Placed, Machine, StreamFront, bytes_of, stream_front, steps_left, start_machine, placed_from}
 
 -- an opcode, and the operand lengths under which it acts
 pub record Acting : Type 0 where
@@ -18,7 +10,7 @@ pub record Acting : Type 0 where
 
 -- the opcode at a front between two codes, if there is one
 abbrev pub acting_at : Machine → codes.Front → List Acting
-acting_at m (codes.complete (code.Op op) n sets) = record { op = op; lengths = m.work.domain } ∷ []
+acting_at m (codes.complete (Code.Op op) n sets) = record { op = op; lengths = m.work.domain } ∷ []
 acting_at m _ = []
 
 -- the opcode at the front of a list; none acts in a body
@@ -49,12 +41,12 @@ acting budget p = acting_from (start_machine budget) (placed_from 0 p)
 -- the opcodes among codes
 abbrev pub opcodes_of : List Code → List Opcode
 opcodes_of [] = []
-opcodes_of (code.Op op ∷ rest) = op ∷ opcodes_of rest
+opcodes_of (Code.Op op ∷ rest) = op ∷ opcodes_of rest
 opcodes_of (_ ∷ rest) = opcodes_of rest
 
 -- The opcode acts under operands of eight words and four words, unless it is DOMAIN or RESET.
 abbrev pub ActsUnderEightAndFour : Acting → Type 0
-ActsUnderEightAndFour a = a.op ≢ opcodes.Domain → a.op ≢ opcodes.Reset → a.lengths ≡ record { multi = 8; single = 4 }
+ActsUnderEightAndFour a = a.op ≢ Opcode.Domain → a.op ≢ Opcode.Reset → a.lengths ≡ record { multi = 8; single = 4 }
 
 -- The opcodes that act in a stream are all the opcodes of the stream, and each acts under operands of eight words and
 -- four words, unless it is DOMAIN or RESET.

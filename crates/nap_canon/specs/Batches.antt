@@ -1,21 +1,12 @@
-use Rattle.std.specs.Prelude.{ℕ, zero, suc, ◌≡◌, ◌+◌, ◌-◌, ◌<◌, ◌≤◌, ◌*◌, ◌/◌, ◌++◌, ◌⊎◌, if◌then◌else◌, None, Bool, true, false, List, [], ◌∷◌, Result, Ok, Err, length, take, drop, slice_index}
-use Rattle.nap_values.specs.Coordinates.{Coordinates}
-use Rattle.nap_values.specs.Spellings.{point_bytes}
+use Rattle.std.specs.Prelude.{Bool, Err, List, None, Ok, Result, [], drop, false, if◌then◌else◌, length, slice_index, suc, take, true, zero, ℕ, ◌*◌, ◌++◌, ◌+◌, ◌-◌, ◌/◌, ◌<◌, ◌∷◌, ◌≡◌, ◌≤◌, ◌⊎◌}
+use Rattle.nap_canon.specs.Names.{Attributes, Batch, Coordinates, Entry, Put, SinkModel, State, TakesAll, batch_entries, format_effector, hand_attributes, hand_of, ink_attributes, ink_of, last_point, point_attributes, point_bytes, sink_model, walk}
 use Rattle.nap_codes.specs.declared.code_set.CharSet.TheVariants.{Primary}
 use Rattle.nap_codes.specs.declared.code_set.GSet.TheVariants.{G0}
-use Rattle.nap_codes.specs.Tables.{format_effector}
 use Rattle.nap_list.specs.declared.attribute.Pen.TheVariants.{At}
-use Rattle.nap_list.specs.declared.batch.Batch.{Batch}
-use Rattle.nap_list.specs.declared.batch.Batch.TheVariants as batches
-use Rattle.nap_list.specs.declared.device.outlet.Outlet as outlet
-use Rattle.nap_list.specs.declared.entry.Entry.{Entry}
+use Rattle.nap_list.specs.declared.device.Outlet as outlet
 use Rattle.nap_list.specs.declared.sink.SinkFault.TheVariants.{Write}
-use Rattle.nap_list.specs.Batches.{last_point, batch_entries}
-use Rattle.nap_list.specs.State.{walk}
-use Rattle.nap_list.specs.declared.state.State.{State}
-use Rattle.nap_list.specs.Putting.{SinkModel, sink_model, Put, TakesAll}
-use Rattle.nap_canon.specs.declared.form.Form.{Form}
-use Rattle.nap_canon.specs.declared.form.Form.TheVariants.{Two}
+use Rattle.nap_canon.specs.declared.text.Form.{Form}
+use Rattle.nap_canon.specs.declared.text.Form.TheVariants.{Two}
 use Rattle.nap_canon.specs.declared.text_end.TextEnd.{TextEnd}
 use Rattle.nap_canon.specs.declared.text_end.TextEnd.TheVariants.{NoRun, InRun}
 use Rattle.nap_canon.specs.Sinking.{Canonical, Took, Broke}
@@ -26,6 +17,12 @@ use Rattle.nap_canon.specs.Text.{gl_of, shift_to_opcodes, shift_to_primary, join
 -- a canonical sink as a model of any sink
 abbrev pub canon_sink_model : {O : Type 0} → outlet.Ghosts O → SinkModel (Canonical O)
 canon_sink_model o = sink_model (λ s. s.state) (λ s d. ⊥) (λ s. o.failed s.outlet) (Took o) (Broke o)
+
+-- the attributes of a batch's first entry
+abbrev pub batch_attributes : Batch → Attributes
+batch_attributes (Batch.Points points drawing) = point_attributes drawing.now.pel drawing.now.colour
+batch_attributes (Batch.Lines from points drawing) = ink_attributes (ink_of drawing.now)
+batch_attributes (Batch.Text set codes pen drawing) = hand_attributes (record (hand_of drawing.now) { pen = pen })
 
 -- n bytes were taken, and the write of the next one failed
 pub record CutAfter {S : Type 0} (sent : S → List ℕ → Bool → S → Type 0) (s : S) (bytes : List ℕ) (n : ℕ) (t : S) : Type 0 where
@@ -59,9 +56,9 @@ TextJoins text_end codes count = (text_end ≡ NoRun G0) ⊎ ((count ≤ 1023) �
 
 -- count entries of a batch, from this index on, join the last run or text, or open one
 abbrev pub Joins : Form → TextEnd → State → Batch → ℕ → ℕ → Type 0
-Joins form text_end s (batches.Points points drawing) first count = PointsJoin form text_end 0x26 count
-Joins form text_end s (batches.Lines from points drawing) first count = PointsJoin form text_end 0x28 count × (s.drawing.pen ≡ At (last_point from (take first points.now)))
-Joins form text_end s (batches.Text set codes pen drawing) first count = (set ≡ Primary) × TextJoins text_end (drop first codes.now) count
+Joins form text_end s (Batch.Points points drawing) first count = PointsJoin form text_end 0x26 count
+Joins form text_end s (Batch.Lines from points drawing) first count = PointsJoin form text_end 0x28 count × (s.drawing.pen ≡ At (last_point from (take first points.now)))
+Joins form text_end s (Batch.Text set codes pen drawing) first count = (set ≡ Primary) × TextJoins text_end (drop first codes.now) count
 
 -- count entries after this one join the last run or text, or open one, once this one was put
 abbrev pub JoinsAfter : Form → TextEnd → Batch → ℕ → ℕ → Type 0
@@ -73,27 +70,27 @@ run_opening text_end byte count = if joins_open_run text_end byte count then [] 
 
 -- what comes before count entries: nothing if they join, else an opcode or a shift
 abbrev pub opening : TextEnd → Batch → ℕ → List ℕ
-opening text_end (batches.Points points drawing) count = run_opening text_end 0x26 (8 * count)
-opening text_end (batches.Lines from points drawing) count = run_opening text_end 0x28 (8 * count)
-opening text_end (batches.Text set codes pen drawing) count = shift_to_primary (gl_of text_end)
+opening text_end (Batch.Points points drawing) count = run_opening text_end 0x26 (8 * count)
+opening text_end (Batch.Lines from points drawing) count = run_opening text_end 0x28 (8 * count)
+opening text_end (Batch.Text set codes pen drawing) count = shift_to_primary (gl_of text_end)
 
 -- the number of bytes of each of these entries
 abbrev pub entry_size : Batch → ℕ
-entry_size (batches.Points points drawing) = 8
-entry_size (batches.Lines from points drawing) = 8
-entry_size (batches.Text set codes pen drawing) = 1
+entry_size (Batch.Points points drawing) = 8
+entry_size (Batch.Lines from points drawing) = 8
+entry_size (Batch.Text set codes pen drawing) = 1
 
 -- the bytes of count entries, from this index on
 abbrev pub joined_bytes : Batch → ℕ → ℕ → List ℕ
-joined_bytes (batches.Points points drawing) first count = points_bytes (take count (drop first points.now))
-joined_bytes (batches.Lines from points drawing) first count = points_bytes (take count (drop first points.now))
-joined_bytes (batches.Text set codes pen drawing) first count = take count (drop first codes.now)
+joined_bytes (Batch.Points points drawing) first count = points_bytes (take count (drop first points.now))
+joined_bytes (Batch.Lines from points drawing) first count = points_bytes (take count (drop first points.now))
+joined_bytes (Batch.Text set codes pen drawing) first count = take count (drop first codes.now)
 
 -- the end of the text after count entries
 abbrev pub text_end_after_joined : TextEnd → Batch → ℕ → TextEnd
-text_end_after_joined text_end (batches.Points points drawing) count = InRun (run_after text_end 0x26 (8 * count))
-text_end_after_joined text_end (batches.Lines from points drawing) count = InRun (run_after text_end 0x28 (8 * count))
-text_end_after_joined text_end (batches.Text set codes pen drawing) count = NoRun G0
+text_end_after_joined text_end (Batch.Points points drawing) count = InRun (run_after text_end 0x26 (8 * count))
+text_end_after_joined text_end (Batch.Lines from points drawing) count = InRun (run_after text_end 0x28 (8 * count))
+text_end_after_joined text_end (Batch.Text set codes pen drawing) count = NoRun G0
 
 -- the bytes that are appended for a number of entries, from this index on: none for no entry
 abbrev pub bytes_of_rest : TextEnd → Batch → ℕ → ℕ → List ℕ
@@ -120,11 +117,6 @@ pub record Parted (form : Form) (text_end : TextEnd) (s : State) (list : List En
 abbrev pub PutsSome : {O : Type 0} → outlet.Ghosts O → List Entry → Canonical O → Canonical O → Result ℕ ℕ → Type 0
 PutsSome o list s t (Ok count) = (0 < count) × (count ≤ length list) × TakesAll (canon_sink_model o) (take count list) s t
 PutsSome o list s t (Err taken) = Put (canon_sink_model o) list s t (Err (record { taken = taken; fault = Write }))
-
--- the first entry of a list was put, or the device failed during it
-abbrev pub PutsFirst : {O E : Type 0} → outlet.Ghosts O → List Entry → Canonical O → Canonical O → Result (Unit {0}) E → Type 0
-PutsFirst o list s t (Ok _) = PutsSome o list s t (Ok 1)
-PutsFirst o list s t (Err _) = PutsSome o list s t (Err 0)
 
 -- a list was put from this entry on, and the error counts the entries before it too
 abbrev pub PutsAfter : {O : Type 0} → outlet.Ghosts O → ℕ → List Entry → Canonical O → Canonical O → Result (Unit {0}) ℕ → Type 0

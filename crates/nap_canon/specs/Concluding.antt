@@ -1,11 +1,7 @@
-use Rattle.std.specs.Prelude.{◌≡◌, ℕ, Bool, true, false, Result, Ok, Err}
-use Rattle.std.specs.Io.KnownBytes.{Keeps}
-use Rattle.nap_list.specs.Flushing.{flush_count}
-use Rattle.nap_list.specs.declared.device.outlet.Outlet as outlet
-use Rattle.nap_reader.specs.declared.feeding.FeedFault.{FeedFault}
-use Rattle.nap_reader.specs.declared.feeding.FeedFault.TheVariants as feed_fault
+use Rattle.std.specs.Prelude.{Bool, Err, Ok, Result, false, true, ℕ, ◌≡◌}
+use Rattle.nap_canon.specs.Names.{FeedFault, Keeps, flush_count}
+use Rattle.nap_list.specs.declared.device.Outlet as outlet
 use Rattle.nap_canon.specs.declared.conversion.ConvertFault.{ConvertFault}
-use Rattle.nap_canon.specs.declared.conversion.ConvertFault.TheVariants as fault
 
 -- an output before its end and after it: nothing more was written, and it was flushed unless a write had failed
 pub record EndsOutput {O : Type 0} (o : outlet.Ghosts O) (old new : O) : Type 0 where
@@ -23,10 +19,10 @@ bytes_taken false n = Ok n
 -- the answer of a conversion that was fed with this result, where n bytes were written
 abbrev pub answer_of : ℕ → Result (Unit {0}) FeedFault → Result ℕ ConvertFault
 answer_of n (Ok done) = Ok n
-answer_of n (Err (feed_fault.Refused r)) = Err (fault.Refused r n)
-answer_of n (Err feed_fault.Read) = Err (fault.Read n)
+answer_of n (Err (FeedFault.Refused r)) = Err (ConvertFault.Refused r n)
+answer_of n (Err FeedFault.Read) = Err (ConvertFault.Read n)
 
 -- a failed output replaces any other answer
 abbrev pub Concludes : ℕ → Result (Unit {0}) FeedFault → Bool → Result ℕ ConvertFault → Type 0
-Concludes n fed true answer = answer ≡ Err (fault.Write n)
+Concludes n fed true answer = answer ≡ Err (ConvertFault.Write n)
 Concludes n fed false answer = answer ≡ answer_of n fed

@@ -1,14 +1,7 @@
-use Rattle.std.specs.Prelude.{◌≡◌, ◌⊎◌, ◌-◌, ◌^◌, ◌<◌, ◌++◌, ℕ, List, Bool, true, false, None, Some, Result, Ok, Err, length, min}
-use Rattle.nap_draw.specs.Draws.{Cause, stream, memory, device}
-use Rattle.nap_list.specs.declared.device.inlet.Inlet as inlet
-use Rattle.nap_list.specs.declared.entry.Entry.{Entry}
-use Rattle.nap_list.specs.Reading.{Reading, NoneFailed, IsCutOff, IsReadWhole}
-use Rattle.nap_reader.specs.declared.fault.Refusal.{Refusal}
-use Rattle.nap_reader.specs.Breaking.{cause_of, LacksWithin}
-use Rattle.nap_reader.specs.Feeding.{LastRead}
-use Rattle.nap_reader.specs.Stream.{begun, means}
+use Rattle.std.specs.Prelude.{Bool, Err, List, None, Ok, Result, Some, false, length, min, true, ℕ, ◌++◌, ◌-◌, ◌<◌, ◌^◌, ◌≡◌, ◌⊎◌}
+use Rattle.nap_canon.specs.Names.{Cause, Entry, IsCutOff, IsReadWhole, LacksWithin, LastRead, NoneFailed, Reading, Refusal, begun, cause_of, device, means, memory, stream}
+use Rattle.nap_list.specs.declared.device.Inlet as inlet
 use Rattle.nap_canon.specs.declared.conversion.ConvertFault.{ConvertFault}
-use Rattle.nap_canon.specs.declared.conversion.ConvertFault.TheVariants as fault
 use Rattle.nap_canon.specs.Streams.{list_of, IsCanonicalOf}
 use Rattle.nap_canon.specs.Text.{text}
 
@@ -63,9 +56,9 @@ pub record StopsWriting (budget : ℕ) (p : List ℕ) (seen : Reading) (q : List
 -- The answer, by whether the output has failed.
 abbrev pub Converts : ℕ → List ℕ → Reading → List ℕ → Bool → Result ℕ ConvertFault → Type 0
 Converts budget p seen q false (Ok n) = (n ≡ count_of q) × ConvertsWhole budget p seen q
-Converts budget p seen q false (Err (fault.Refused r n)) = (n ≡ count_of q) × RefusesBy budget p seen q r (cause_of r.fault)
-Converts budget p seen q false (Err (fault.Read n)) = (n ≡ count_of q) × StopsReading budget p seen q
-Converts budget p seen q true (Err (fault.Write n)) = (n ≡ count_of q) × StopsWriting budget p seen q
+Converts budget p seen q false (Err (ConvertFault.Refused r n)) = (n ≡ count_of q) × RefusesBy budget p seen q r (cause_of r.fault)
+Converts budget p seen q false (Err (ConvertFault.Read n)) = (n ≡ count_of q) × StopsReading budget p seen q
+Converts budget p seen q true (Err (ConvertFault.Write n)) = (n ≡ count_of q) × StopsWriting budget p seen q
 Converts budget p seen q failed answer = ⊥
 
 -- The last read, if there was one: the text of what the input had given before it was written. So nothing is read after

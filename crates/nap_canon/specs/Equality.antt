@@ -1,11 +1,6 @@
-use Rattle.std.specs.Prelude.{Bool, true, false}
-use Rattle.nap_values.specs.Coordinates.{Displacement}
-use Rattle.nap_list.specs.declared.attribute.Pen.{Pen}
-use Rattle.nap_list.specs.declared.attribute.Base.{Base}
-use Rattle.nap_list.specs.declared.attribute.Colour.{Colour}
-use Rattle.nap_list.specs.declared.attribute.CharSize.{CharSize}
-use Rattle.nap_list.specs.declared.attribute.Texture.{Texture}
-use Rattle.nap_values.specs.contracts.displacement.MovePartialEq.TheImpl as moves
+use Rattle.std.specs.Prelude.{Bool, false, true}
+use Rattle.nap_canon.specs.Names.{Base, CharSize, Colour, Displacement, Pen, Texture}
+use Rattle.nap_values.specs.contracts.point.MovePartialEq.TheImpl as moves
 use Rattle.nap_list.specs.contracts.attribute.PenPartialEq.TheImpl as pens
 use Rattle.nap_list.specs.contracts.attribute.BasePartialEq.TheImpl as bases
 use Rattle.nap_list.specs.contracts.attribute.ColourPartialEq.TheImpl as colours

@@ -1,12 +1,6 @@
-use Rattle.std.specs.Prelude.{ℕ, ◌≡◌, ◌≤◌, ◌↔◌, length, List, ◌++◌, None, IsSome}
-use Rattle.nap_values.specs.Domains.{OperandLengths}
-use Rattle.nap_canon.specs.declared.form.Form.{Form}
-use Rattle.nap_codes.specs.CodeSets.{start_sets}
-use Rattle.nap_list.specs.declared.entry.Entry.{Entry}
-use Rattle.nap_list.specs.Entry.{attributes}
-use Rattle.nap_list.specs.Range.{AllInRange}
-use Rattle.nap_list.specs.State.{start, with_attributes, walk, AllFit, Fits, Legal}
-use Rattle.nap_reader.specs.Stream.{begun, with_run, means}
+use Rattle.std.specs.Prelude.{IsSome, List, None, length, ℕ, ◌++◌, ◌↔◌, ◌≡◌, ◌≤◌}
+use Rattle.nap_canon.specs.Names.{AllFit, AllInRange, Entry, Fits, Legal, OperandLengths, attributes, begun, means, start, start_sets, walk, with_attributes, with_run}
+use Rattle.nap_canon.specs.declared.text.Form.{Form}
 use Rattle.nap_canon.specs.Acting.{AllActUnderEightAndFour}
 use Rattle.nap_canon.specs.Preludes.{prelude}
 use Rattle.nap_canon.specs.Commands.{effects}

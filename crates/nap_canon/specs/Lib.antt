@@ -19,3 +19,4 @@ pub mod Concluding
 pub mod Batches
 pub mod Buffers
 pub mod TextAnswers
+pub mod Names

@@ -1,17 +1,12 @@
-use Rattle.std.specs.Prelude.{ℕ, ◌≡◌, ◌≢◌, List, Some, Result, Ok, Err, length}
-use Rattle.nap_reader.specs.declared.fault.Fault.{Fault}
-use Rattle.nap_reader.specs.declared.fault.Fault.TheVariants as fault
-use Rattle.nap_reader.specs.declared.fault.Refusal.{Refusal}
-use Rattle.nap_reader.specs.Breaking.{BreaksWithin}
-use Rattle.nap_reader.specs.Collecting.{IsCount}
-use Rattle.nap_reader.specs.Stream.{means}
-use Rattle.nap_canon.specs.declared.page.PageText.{PageText}
+use Rattle.std.specs.Prelude.{Err, List, Ok, Result, Some, length, ℕ, ◌≡◌, ◌≢◌}
+use Rattle.nap_canon.specs.Names.{BreaksWithin, Fault, IsCount, Refusal, means}
+use Rattle.nap_canon.specs.declared.text.PageText.{PageText}
 use Rattle.nap_canon.specs.Streams.{list_of, IsCanonicalOf}
 
 -- The canonical text of a page, which is written in memory as the page is read.
 
 abbrev pub text_fault : Fault → Fault
-text_fault fault.Sink = fault.Memory
+text_fault Fault.Sink = Fault.Memory
 text_fault f = f
 
 -- the refusal of a page whose text was taken, where a failed sink is lack of memory
@@ -20,8 +15,8 @@ refusal_of_text r = record r { fault = text_fault r.fault }
 
 -- The refusal is that of the page. One for lack of memory has a place where an act of the page can lack it.
 pub record RefusesPage (budget : ℕ) (p : List ℕ) (r : Refusal) : Type 0 where
-  pub refused : r.fault ≢ fault.Memory → (means budget p).refusal ≡ Some r
-  pub memory : r.fault ≡ fault.Memory → BreaksWithin budget p r.place
+  pub refused : r.fault ≢ Fault.Memory → (means budget p).refusal ≡ Some r
+  pub memory : r.fault ≡ Fault.Memory → BreaksWithin budget p r.place
 
 -- the canonical text of a page and the number of its entries, or why it is refused
 abbrev pub IsPageText : ℕ → List ℕ → Result PageText Refusal → Type 0

@@ -1,22 +1,8 @@
-use Rattle.std.specs.Prelude.{ℕ, List, [], ◌∷◌, ◌++◌, ◌==◌, ◌&&◌, Bool, Option, Some, None, if◌then◌else◌}
-use Rattle.nap_values.specs.Coordinates.{Displacement}
-use Rattle.nap_list.specs.declared.attribute.Pen.{Pen}
-use Rattle.nap_list.specs.declared.attribute.Pen.TheVariants as pens
-use Rattle.nap_list.specs.declared.attribute.Base.{Base}
-use Rattle.nap_list.specs.declared.attribute.Base.TheVariants as bases
-use Rattle.nap_list.specs.declared.attribute.Colour.{Colour}
-use Rattle.nap_list.specs.declared.attribute.Colour.TheVariants as colours
-use Rattle.nap_list.specs.declared.attribute.CharSize.{CharSize}
-use Rattle.nap_list.specs.declared.attribute.CharSize.TheVariants as sizes
-use Rattle.nap_list.specs.declared.attribute.Texture.{Texture}
-use Rattle.nap_list.specs.declared.attribute.TextLook.{TextLook}
-use Rattle.nap_list.specs.declared.attribute.Attributes.{Attributes}
-use Rattle.nap_list.specs.declared.state.Drawing.{Drawing}
+use Rattle.std.specs.Prelude.{Bool, List, None, Option, Some, [], if◌then◌else◌, ℕ, ◌&&◌, ◌++◌, ◌==◌, ◌∷◌}
+use Rattle.nap_canon.specs.Names.{Attributes, Base, CharSize, Colour, Displacement, Drawing, Pen, TextLook, Texture}
 use Rattle.nap_canon.specs.Equality.{same_move, same_pen, same_colour, same_base, same_size, same_texture, same_flag}
 use Rattle.nap_canon.specs.declared.command.Command.{Command}
-use Rattle.nap_canon.specs.declared.command.Command.TheVariants as commands
 use Rattle.nap_canon.specs.declared.command.Flag.{Flag}
-use Rattle.nap_canon.specs.declared.command.Flag.TheVariants as flags
 
 -- The prelude of an entry: the commands that make its attributes current, for each that isn't.
 
@@ -31,46 +17,46 @@ option_commands (Some c) = c ∷ []
 
 -- the command that sets a pen
 abbrev pub pen_commands : Pen → List Command
-pen_commands (pens.At p) = commands.PointSet p ∷ []
+pen_commands (Pen.At p) = Command.PointSet p ∷ []
 pen_commands _ = []
 
 -- the command that selects mode 0, from this colour
 abbrev pub base_commands : Colour → List Command
-base_commands (colours.Own origin) = []
-base_commands (colours.Direct grb) = []
-base_commands _ = commands.SelectBase ∷ []
+base_commands (Colour.Own origin) = []
+base_commands (Colour.Direct grb) = []
+base_commands _ = Command.SelectBase ∷ []
 
 -- the commands that set a colour, from this base and this colour
 abbrev pub colour_commands : Base → Colour → Colour → List Command
-colour_commands base old (colours.Own origin) = commands.SelectBase ∷ []
-colour_commands base old (colours.Direct grb) = base_commands old ++ unless (same_base base (bases.Direct grb)) (commands.SetColor grb ∷ [])
-colour_commands base old (colours.Front a) = commands.SelectFront a ∷ []
-colour_commands base old (colours.Pair a b) = commands.SelectPair a b ∷ []
-colour_commands base old (colours.ByReset preset) = []
+colour_commands base old (Colour.Own origin) = Command.SelectBase ∷ []
+colour_commands base old (Colour.Direct grb) = base_commands old ++ unless (same_base base (Base.Direct grb)) (Command.SetColor grb ∷ [])
+colour_commands base old (Colour.Front a) = Command.SelectFront a ∷ []
+colour_commands base old (Colour.Pair a b) = Command.SelectPair a b ∷ []
+colour_commands base old (Colour.ByReset preset) = []
 
 -- the command that sets the word of a texture, and its mask if it isn't this one
 abbrev pub mask_commands : ℕ → Option Displacement → Option Displacement → List Command
-mask_commands word old None = commands.Texture word ∷ []
-mask_commands word None (Some m) = commands.TextureMask word m ∷ []
-mask_commands word (Some old) (Some m) = if same_move old m then commands.Texture word ∷ [] else commands.TextureMask word m ∷ []
+mask_commands word old None = Command.Texture word ∷ []
+mask_commands word None (Some m) = Command.TextureMask word m ∷ []
+mask_commands word (Some old) (Some m) = if same_move old m then Command.Texture word ∷ [] else Command.TextureMask word m ∷ []
 
 -- the command that sets the words of text
 abbrev pub words_commands : TextLook → TextLook → List Command
-words_commands old t = unless (old.first == t.first && old.second == t.second) (commands.Text t.first t.second ∷ [])
+words_commands old t = unless (old.first == t.first && old.second == t.second) (Command.Text t.first t.second ∷ [])
 
 -- the command that sets the words of text and a given size
 abbrev pub given_size_commands : TextLook → TextLook → CharSize → List Command
-given_size_commands old t (sizes.Given m) = if same_size old.size (sizes.Given m) then words_commands old t else commands.TextSize t.first t.second m ∷ []
-given_size_commands old t (sizes.Named size) = words_commands old t
+given_size_commands old t (CharSize.Given m) = if same_size old.size (CharSize.Given m) then words_commands old t else Command.TextSize t.first t.second m ∷ []
+given_size_commands old t (CharSize.Named size) = words_commands old t
 
 -- the command that sets a named size
 abbrev pub named_size_commands : CharSize → CharSize → List Command
-named_size_commands old (sizes.Given m) = []
-named_size_commands old (sizes.Named size) = unless (same_size old (sizes.Named size)) (commands.Named size ∷ [])
+named_size_commands old (CharSize.Given m) = []
+named_size_commands old (CharSize.Named size) = unless (same_size old (CharSize.Named size)) (Command.Named size ∷ [])
 
 -- the command that sets a flag on or off
 abbrev pub flag_commands : Flag → Bool → Bool → List Command
-flag_commands f old on = unless (same_flag old on) (commands.Flag f on ∷ [])
+flag_commands f old on = unless (same_flag old on) (Command.Flag f on ∷ [])
 
 -- the prelude of each attribute
 
@@ -80,7 +66,7 @@ pen_prelude old (Some pen) = unless (same_pen old pen) (pen_commands pen)
 
 unfoldable pub pel_prelude : Displacement → Option Displacement → List Command
 pel_prelude old None = []
-pel_prelude old (Some m) = unless (same_move old m) (commands.Pel m ∷ [])
+pel_prelude old (Some m) = unless (same_move old m) (Command.Pel m ∷ [])
 
 unfoldable pub colour_prelude : Base → Colour → Option Colour → List Command
 colour_prelude base old None = []
@@ -95,10 +81,10 @@ text_prelude old None = []
 text_prelude old (Some t) =
     given_size_commands old t t.size
     ++ (named_size_commands old.size t.size
-    ++ (flag_commands flags.Reverse old.reverse t.reverse
-    ++ (flag_commands flags.Underline old.underline t.underline
-    ++ (flag_commands flags.Wrap old.wrap t.wrap
-    ++ flag_commands flags.Scroll old.scroll t.scroll))))
+    ++ (flag_commands Flag.Reverse old.reverse t.reverse
+    ++ (flag_commands Flag.Underline old.underline t.underline
+    ++ (flag_commands Flag.Wrap old.wrap t.wrap
+    ++ flag_commands Flag.Scroll old.scroll t.scroll))))
 
 -- the prelude of all attributes that an entry holds
 unfoldable pub prelude : Drawing → Attributes → List Command

@@ -1,7 +1,5 @@
 use Rattle.std.specs.Prelude.{IfSome}
-use Rattle.nap_values.specs.Coordinates.{IsInRange}
-use Rattle.nap_list.specs.declared.attribute.Attributes.{Attributes}
-use Rattle.nap_list.specs.Range.{PenInRange, ColourInRange, TextureInRange, TextInRange}
+use Rattle.nap_canon.specs.Names.{Attributes, ColourInRange, IsInRange, PenInRange, TextInRange, TextureInRange}
 
 -- The attributes of an entry are in the ranges of their types.
 pub record AttributesInRange (h : Attributes) : Type 0 where

@@ -1,13 +1,10 @@
 use Rattle.std.proofs.Common.{ℕ, ◌≡◌, ◌+◌, ◌<◌, Bool, true, false, List, [], ◌++◌, length, take, refl, ap, sym, subst, ◌∙◌, append_assoc, length-append, arith}
 use Rattle.std.proofs.lemmas.List.{take-append-le}
 use Rattle.std.proofs.Math.Seq.{take-append-add}
-use Rattle.nap_list.specs.Sending.{Sending, Grows, grows_none, grows_more, SendsAll, Sends}
+use Rattle.nap_canon.specs.Names.{Entry, Grows, Sending, Sends, SendsAll, State, grows_more, grows_none, walk}
 use Rattle.nap_canon.specs.declared.text_end.TextEnd.{TextEnd}
-use Rattle.nap_canon.specs.declared.form.Form.{Form}
-use Rattle.nap_list.specs.declared.device.outlet.Outlet as outlet
-use Rattle.nap_list.specs.declared.entry.Entry.{Entry}
-use Rattle.nap_list.specs.declared.state.State.{State}
-use Rattle.nap_list.specs.State.{walk}
+use Rattle.nap_canon.specs.declared.text.Form.{Form}
+use Rattle.nap_list.specs.declared.device.Outlet as outlet
 use Rattle.nap_list.proofs.PublicLaws.{walks_join}
 use Rattle.nap_canon.specs.Spelling.{Piece}
 use Rattle.nap_canon.specs.Text.{pieces_bytes, text_end_after, pieces, entry_pieces}

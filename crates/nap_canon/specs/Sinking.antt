@@ -1,12 +1,9 @@
-use Rattle.std.specs.Prelude.{ℕ, ◌≡◌, ◌<◌, true, false, List, ◌++◌, length, take}
+use Rattle.std.specs.Prelude.{List, false, length, take, true, ℕ, ◌++◌, ◌<◌, ◌≡◌}
+use Rattle.nap_canon.specs.Names.{Entry, Grows, Sending, Sends, SendsAll, State, sending, start, walk}
 use Rattle.nap_canon.specs.declared.text_end.TextEnd.{TextEnd}
-use Rattle.nap_canon.specs.declared.form.Form.{Form}
-use Rattle.nap_canon.specs.declared.form.Form.TheVariants.{Two}
-use Rattle.nap_list.specs.declared.device.outlet.Outlet as outlet
-use Rattle.nap_list.specs.declared.entry.Entry.{Entry}
-use Rattle.nap_list.specs.declared.state.State.{State}
-use Rattle.nap_list.specs.Sending.{Grows, Sending, Sends, SendsAll, sending}
-use Rattle.nap_list.specs.State.{start, walk}
+use Rattle.nap_canon.specs.declared.text.Form.{Form}
+use Rattle.nap_canon.specs.declared.text.Form.TheVariants.{Two}
+use Rattle.nap_list.specs.declared.device.Outlet as outlet
 use Rattle.nap_canon.specs.Text.{header, text_end_after_header, pieces_bytes, text_end_after, pieces, entry_pieces, text}
 
 -- A canonical sink: its outlet, the number of bytes that it took, the form of the text and its end, and the state that

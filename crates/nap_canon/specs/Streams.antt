@@ -1,7 +1,5 @@
-use Rattle.std.specs.Prelude.{ℕ, ◌≡◌, ◌⊎◌, List, None, length}
-use Rattle.nap_list.specs.declared.entry.Entry.{Entry}
-use Rattle.nap_reader.specs.Breaking.{BreaksWithin}
-use Rattle.nap_reader.specs.Stream.{means}
+use Rattle.std.specs.Prelude.{List, None, length, ℕ, ◌≡◌, ◌⊎◌}
+use Rattle.nap_canon.specs.Names.{BreaksWithin, Entry, means}
 use Rattle.nap_canon.specs.Text.{text}
 
 -- the stream is accepted

@@ -1,13 +1,7 @@
-use Rattle.std.specs.Prelude.{ℕ, ◌+◌, ◌==◌, ◌&&◌, nat_le, Bool, false, List, [], ◌∷◌, ◌++◌, length, map, if◌then◌else◌}
-use Rattle.nap_codes.specs.declared.code_set.GSet.{GSet}
+use Rattle.std.specs.Prelude.{Bool, List, [], false, if◌then◌else◌, length, map, nat_le, ℕ, ◌&&◌, ◌++◌, ◌+◌, ◌==◌, ◌∷◌}
+use Rattle.nap_canon.specs.Names.{Entry, GSet, State, after, attributes, run_limit, start, with_attributes}
 use Rattle.nap_codes.specs.declared.code_set.GSet.TheVariants.{G0, G1}
-use Rattle.nap_list.specs.declared.entry.Entry.{Entry}
-use Rattle.nap_list.specs.declared.state.State.{State}
-use Rattle.nap_list.specs.Entry.{attributes}
-use Rattle.nap_list.specs.State.{start, with_attributes, after}
-use Rattle.nap_draw.specs.Limits.{run_limit}
-use Rattle.nap_canon.specs.declared.form.Form.{Form}
-use Rattle.nap_canon.specs.declared.form.Form.TheVariants as forms
+use Rattle.nap_canon.specs.declared.text.Form.{Form}
 use Rattle.nap_canon.specs.declared.text_end.Run.{Run}
 use Rattle.nap_canon.specs.declared.text_end.TextEnd.{TextEnd}
 use Rattle.nap_canon.specs.declared.text_end.TextEnd.TheVariants.{NoRun, InRun}
@@ -92,8 +86,8 @@ text_in form es = header ++ pieces_bytes text_end_after_header (pieces form star
 
 -- the canonical text of a list
 abbrev pub text : List Entry → List ℕ
-text = text_in forms.Two
+text = text_in Form.Two
 
 -- the text of a list in form 1, which canonical streams had before
 abbrev pub text1 : List Entry → List ℕ
-text1 = text_in forms.One
+text1 = text_in Form.One

@@ -1,11 +1,8 @@
-use Rattle.std.specs.Prelude.{ℕ, ◌≡◌, ◌↔◌, List, Result, Vec, IfOk, IsErrOf}
-use Rattle.std.specs.declared.alloc.Global.{Global}
-use Rattle.nap_list.specs.declared.entry.Entry.{Entry}
-use Rattle.nap_list.specs.Range.{AllInRange}
-use Rattle.nap_list.specs.State.{Legal, IsIllegalAt}
-use Rattle.nap_canon.specs.declared.fault.CanonFault.{CanonFault}
-use Rattle.nap_canon.specs.declared.fault.CanonFault.TheVariants.{Illegal, Memory}
-use Rattle.nap_canon.specs.declared.form.Form.{Form}
+use Rattle.std.specs.Prelude.{IfOk, IsErrOf, List, Result, Vec, ℕ, ◌↔◌, ◌≡◌}
+use Rattle.nap_canon.specs.Names.{AllInRange, Entry, Global, IsIllegalAt, Legal}
+use Rattle.nap_canon.specs.declared.text.CanonFault.{CanonFault}
+use Rattle.nap_canon.specs.declared.text.CanonFault.TheVariants.{Illegal, Memory}
+use Rattle.nap_canon.specs.declared.text.Form.{Form}
 use Rattle.nap_canon.specs.Laws.{IsReadAs}
 use Rattle.nap_canon.specs.Plain.{IsPlain}
 use Rattle.nap_canon.specs.Text.{text_in}

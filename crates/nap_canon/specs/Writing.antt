@@ -1,13 +1,9 @@
-use Rattle.std.specs.Prelude.{ℕ, ◌≡◌, ◌<◌, ◌≤◌, ◌++◌, length, take, Ok, Err, Bool, true, false, List, [], ◌∷◌, map, Option, Some, None, Result, is_err, OnOk, OnErr}
-use Rattle.nap_list.specs.declared.entry.Entry.{Entry}
-use Rattle.nap_list.specs.declared.entry.Entry.TheVariants as entries
-use Rattle.nap_list.specs.declared.state.Drawing.{Drawing}
-use Rattle.nap_list.specs.declared.state.State.{State}
-use Rattle.nap_list.specs.State.{after, walk}
+use Rattle.std.specs.Prelude.{Bool, Err, List, None, Ok, OnErr, OnOk, Option, Result, Some, [], false, is_err, length, map, take, true, ℕ, ◌++◌, ◌<◌, ◌∷◌, ◌≡◌, ◌≤◌}
+use Rattle.nap_canon.specs.Names.{Drawing, EachIsCurrent, Entry, State, after, attributes, walk, with_attributes}
 use Rattle.nap_canon.specs.declared.command.Command.{Command}
-use Rattle.nap_canon.specs.declared.form.Form.{Form}
+use Rattle.nap_canon.specs.declared.text.Form.{Form}
 use Rattle.nap_canon.specs.declared.pending.Pending.{Pending}
-use Rattle.nap_canon.specs.declared.pending.figures.Path.{Path}
+use Rattle.nap_canon.specs.declared.pending.spelling.Path.{Path}
 use Rattle.nap_canon.specs.declared.text_end.TextEnd.{TextEnd}
 use Rattle.nap_canon.specs.declared.writer.Writer.{Writer}
 use Rattle.nap_canon.specs.Batches.{CutAfter, Parted, SentWhole}
@@ -33,14 +29,22 @@ AppendsPieces ps w t = AppendsBytes (pieces_bytes w.text_end ps) (text_end_after
 abbrev pub AppendsCommands : List Command → Pending → Pending → Type 0
 AppendsCommands commands w t = AppendsPieces (map command_piece commands) w t
 
--- the first entry of a list, whose attributes are current, was appended
+-- the first entry of a list was appended
 abbrev pub AppendsNext : Form → State → List Entry → Pending → Pending → Type 0
 AppendsNext form s list w t = (e : Entry) (es : List Entry) → list ≡ e ∷ es → AppendsPieces (entry_pieces form s e) w t
 
+-- the spelling of the first entry of a list was appended, without its prelude
+abbrev pub SpellsNext : Form → Drawing → List Entry → Pending → Pending → Type 0
+SpellsNext form d list w t = (e : Entry) (es : List Entry) → list ≡ e ∷ es → AppendsPieces (spelling_pieces form (with_attributes d (attributes e)) e) w t
+
+-- the attributes of the entries after the first are current once it was put
+abbrev pub RestIsCurrent : State → List Entry → Type 0
+RestIsCurrent s list = (e : Entry) (es : List Entry) → list ≡ e ∷ es → EachIsCurrent (after s e) es
+
 -- whether an entry isn't an arc or polygon, so that its bytes are few
 abbrev pub is_short : Entry → Bool
-is_short (entries.Arc filled points ink) = false
-is_short (entries.Poly filled points ink) = false
+is_short (Entry.Arc filled points ink) = false
+is_short (Entry.Poly filled points ink) = false
 is_short _ = true
 
 -- the shape of an entry, if it is an arc or polygon
@@ -82,26 +86,34 @@ pub record Puts {T F E : Type 0} (sends : T → List ℕ → Bool → T → Type
   pub state : OnOk r (t.state ≡ after w.state e)
   pub still : OnErr r (t.state ≡ w.state)
 
--- the first entries of a list, count of them, were put in one write
-pub record WritesPrefix {T F : Type 0} (sends : T → List ℕ → Bool → T → Type 0) (list : List Entry) (w t : Writer T F) (count : ℕ) : Type 0 where
+-- the first entries of a list, count of them, were sent in one write
+pub record SendsWholly {T : Type 0} (sends : T → List ℕ → Bool → T → Type 0) (form : Form) (s : State) (list : List Entry) (begin : TextEnd) (from : T) (end : TextEnd) (to : T) (count : ℕ) : Type 0 where
   pub some : 0 < count
   pub few : count ≤ length list
-  pub sent : sends w.target (pieces_bytes w.pending.text_end (pieces w.form w.state (take count list))) false t.target
-  pub text_end : t.pending.text_end ≡ text_end_after w.pending.text_end (pieces w.form w.state (take count list))
-  pub form : t.form ≡ w.form
-  pub state : t.state ≡ walk w.state (take count list)
+  pub sent : sends from (pieces_bytes begin (pieces form s (take count list))) false to
+  pub ends : end ≡ text_end_after begin (pieces form s (take count list))
 
 -- of the first entries of a list, sent in one write, a number was taken completely
-pub record CutsPrefix {T F : Type 0} (sends : T → List ℕ → Bool → T → Type 0) (list : List Entry) (w t : Writer T F) (whole : ℕ) : Type 0 where
+pub record SendsPartly {T : Type 0} (sends : T → List ℕ → Bool → T → Type 0) (form : Form) (s : State) (list : List Entry) (begin : TextEnd) (from to : T) (whole : ℕ) : Type 0 where
   pub count : ℕ
   pub few : count ≤ length list
   pub less : whole < count
   pub far : ℕ
-  pub cut : CutAfter sends w.target (pieces_bytes w.pending.text_end (pieces w.form w.state (take count list))) far t.target
-  pub parted : Parted w.form w.pending.text_end w.state (take count list) whole far
-  pub state : t.state ≡ walk w.state (take whole list)
+  pub cut : CutAfter sends from (pieces_bytes begin (pieces form s (take count list))) far to
+  pub parted : Parted form begin s (take count list) whole far
 
--- a prefix of a list was put in one write, or as many of its entries as the error says
-abbrev pub PutsPrefix : {T F : Type 0} → (T → List ℕ → Bool → T → Type 0) → List Entry → Writer T F → Writer T F → Result ℕ ℕ → Type 0
-PutsPrefix sends list w t (Ok count) = WritesPrefix sends list w t count
-PutsPrefix sends list w t (Err whole) = CutsPrefix sends list w t whole
+-- a prefix of a list was sent in one write, or as many of its entries as the error says
+abbrev pub SendsPrefix : {T : Type 0} → (T → List ℕ → Bool → T → Type 0) → Form → State → List Entry → TextEnd → T → TextEnd → T → Result ℕ ℕ → Type 0
+SendsPrefix sends form s list begin from end to (Ok count) = SendsWholly sends form s list begin from end to count
+SendsPrefix sends form s list begin from end to (Err whole) = SendsPartly sends form s list begin from to whole
+
+-- how many entries were put, be it all or those up to a failure
+abbrev pub put_count : Result ℕ ℕ → ℕ
+put_count (Ok count) = count
+put_count (Err count) = count
+
+-- a prefix of a list was put in one write, and the state is that after as many entries as the answer says
+pub record PutsPrefix {T F : Type 0} (sends : T → List ℕ → Bool → T → Type 0) (list : List Entry) (w t : Writer T F) (r : Result ℕ ℕ) : Type 0 where
+  pub sent : SendsPrefix sends w.form w.state list w.pending.text_end w.target t.pending.text_end t.target r
+  pub form : t.form ≡ w.form
+  pub state : t.state ≡ walk w.state (take (put_count r) list)

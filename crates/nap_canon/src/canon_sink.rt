@@ -1,17 +1,15 @@
 //! A sink that writes the canonical text of its entries (PROFILE.md, Canonical text).
 ghost use Rattle.std.specs.Prelude.{◌≡◌, ◌<◌, ◌≤◌, [], ◌∷◌, length, drop, true, false, OnOk, IsErrOf};
-ghost use Rattle.nap_list.specs.Batches.{EachIsCurrent, FirstIsCurrent, batch_entries, text_entries};
-ghost use Rattle.nap_list.specs.State.{AllFit, Fits, after};
-ghost use Rattle.nap_canon.specs.Batches.{PutsAfter, PutsFirst, PutsSome};
+ghost use Rattle.nap_canon.specs.Names.{AllFit, EachIsCurrent, FirstIsCurrent, Fits, after, batch_entries};
+ghost use Rattle.nap_canon.specs.Batches.{PutsAfter, PutsSome};
 ghost use Rattle.nap_canon.specs.Concluding.{EndsOutput, bytes_taken};
 ghost use Rattle.nap_canon.specs.Sinking.{StartsTextIn, StartsText, Took, Broke};
 ghost use Rattle.nap_canon.specs.SinkLaws.{took_none, took_more, took_broke};
 
-use crate::form::Form;
-use crate::output::Output;
+use crate::byte_sink::Output;
+use crate::text::Form;
 use crate::writer::Writer;
-use nap_codes::CharSet;
-use nap_list::{Batch, BatchFault, Drawing, Entry, Outlet, Pen, Shape, Sink, SinkFault};
+use nap_list::{Batch, BatchFault, Entry, Outlet, Shape, Sink, SinkFault};
 use std::alloc::Global;
 use std::marker::Model;
 
@@ -83,37 +81,7 @@ impl<O: Outlet + Drop> CanonSink<O> {
         !self.failed() && self.writer.first_is_current(batch)
     }
 
-    /// Takes the first entry of a batch.
-    #[inline(always)]
-    fn put_first(&mut self, batch: &Batch) -> Result<(), SinkFault>
-        requires some { 0 < length (batch_entries batch.now) }
-        requires fit { AllFit self.old.state (batch_entries batch.now) }
-        ensures { PutsFirst O.Outlet (batch_entries batch.now) self.old self.new result }
-    {
-        self.put_ref(&batch.entry(0))
-    }
-
-    /// Takes the first byte of a text at this pen, and those after it that make one write with it. Returns their number;
-    /// so does the error.
-    #[inline(always)]
-    fn put_text<'a>(
-        &mut self,
-        set: CharSet,
-        codes: &'a [u8],
-        pen: &Pen,
-        drawing: &'a Drawing,
-    ) -> Result<usize, usize>
-        requires some { 0 < length codes.now }
-        requires fit { AllFit self.old.state (text_entries drawing.now pen.now set codes.now) }
-        ensures { PutsSome O.Outlet (text_entries drawing.now pen.now set codes.now) self.old self.new result }
-    {
-        if self.failed() {
-            return Err(0);
-        }
-        self.writer.put_text(set, codes, pen, drawing)
-    }
-
-    /// Takes the first entry of a batch, and those of a text that make one write with it. Returns their number; so does
+    /// Takes the first entry of a batch, and those after it that make one write with it. Returns their number; so does
     /// the error.
     #[inline(always)]
     fn put_start(&mut self, batch: &Batch) -> Result<usize, usize>
@@ -121,18 +89,23 @@ impl<O: Outlet + Drop> CanonSink<O> {
         requires fit { AllFit self.old.state (batch_entries batch.now) }
         ensures { PutsSome O.Outlet (batch_entries batch.now) self.old self.new result }
     {
-        if let Batch::Text {
-            set,
-            codes,
-            pen,
-            drawing,
-        } = batch
-        {
-            return self.put_text(*set, codes, pen, drawing);
+        if self.failed() {
+            return Err(0);
         }
-        match self.put_first(batch) {
-            Ok(()) => Ok(1),
-            Err(_) => Err(0),
+        // The code for a text is its own, since its kind is known there.
+        match batch {
+            Batch::Text {
+                set,
+                codes,
+                pen,
+                drawing,
+            } => self.writer.put_start(&Batch::Text {
+                set: *set,
+                codes,
+                pen: *pen,
+                drawing,
+            }),
+            _ => self.writer.put_start(batch),
         }
     }
 

@@ -1,16 +1,18 @@
 //! Conversion of a stream to its canonical stream as it is read (PROFILE.md, Streaming).
-ghost use Rattle.std.specs.Prelude.{◌≡◌, ◌+◌, ◌^◌, ◌<◌, ◌≤◌, ℕ, List, true, false};
+ghost use Rattle.std.specs.Prelude.{◌≡◌, ◌+◌, ◌^◌, ◌<◌, ◌≤◌, ℕ, List, true, false, ◌≢◌, ◌↔◌, Some, length, IfOk, IfErr};
 ghost use Rattle.std.specs.Io.KnownBytes.{Appends, Consumes};
-ghost use Rattle.nap_list.specs.Flushing.{FlushedOnce};
-ghost use Rattle.nap_list.specs.Limits.{reads_limit};
-ghost use Rattle.nap_list.specs.Reading.{reading};
+ghost use Rattle.nap_canon.specs.Names.{FlushedOnce, means, reading, reads_limit};
 ghost use Rattle.nap_canon.specs.Converting.{Converts, StopsAtOnce};
 ghost use Rattle.nap_canon.specs.Concluding.{Concludes, EndsOutput};
+ghost use Rattle.nap_canon.specs.Laws.{IsReadAs};
+ghost use Rattle.nap_canon.specs.Plain.{IsPlain};
+ghost use Rattle.nap_canon.specs.Streams.{list_of, IsCanonicalOf, LacksMemoryAt};
 
 use crate::canon_sink::CanonSink;
-use nap_list::{Inlet, Outlet, STREAM_READ_SIZE};
-use nap_reader::{Budget, FeedFault, Reader, Refusal, feed_from};
-use std::alloc::Global;
+use crate::text::page_text;
+use nap_list::{CountSink, Inlet, Outlet, STREAM_READ_SIZE};
+use nap_reader::{Budget, Fault, FeedFault, Reader, Refusal, feed_from, read_stream};
+use std::alloc::{AllocError, Global};
 use thiserror::Error;
 
 /// Why a stream wasn't converted to its end, and how many bytes the output took before, saturating at the greatest
@@ -88,5 +90,41 @@ pub fn convert<I: Inlet, O: Outlet + Drop>(
             Err(stopped) => conclude(stopped.sink, Err(FeedFault::Refused(stopped.refusal))),
         },
         Err(fault) => conclude(reader.into_sink(), Err(fault)),
+    }
+}
+
+/// Returns the refusal of a stream whose text lacks memory: that of the stream, or else Memory at its end.
+fn refusal_or_memory(alloc: Global, budget: Budget, bytes: &[u8]) -> Refusal
+    ensures refused { result.fault ≢ Fault.Memory → (means budget bytes.now).refusal ≡ Some result }
+    ensures memory { result.fault ≡ Fault.Memory → LacksMemoryAt budget bytes.now result.place }
+{
+    match read_stream(alloc, budget, bytes, CountSink::new()) {
+        Ok(_) => Refusal {
+            fault: Fault::Memory,
+            place: bytes.len() as u64,
+        },
+        Err(refusal) => refusal,
+    }
+}
+
+/// Returns the canonical stream of a stream: the canonical text of its display list. Lack of memory for the text is
+/// refused as Memory where the text is written, or at the end of the stream (PROFILE.md, Canonical text).
+pub fn normalise(alloc: Global, budget: Budget, bytes: &[u8]) -> Result<Vec<u8>, Refusal>
+    requires { length bytes.now < 2 ^ 63 }
+    ensures canonical { IfOk result (λ c. IsCanonicalOf budget c.items bytes.now) }
+    ensures plain { IfOk result (λ c. IsPlain c.items) }
+    // The result is accepted with the same list, under any budget, and is its own canonical stream.
+    ensures read_again { IfOk result (λ c. (other : ℕ) → IsReadAs other c.items (list_of budget bytes.now)) }
+    ensures own { IfOk result (λ c. (other : ℕ) → IsCanonicalOf other c.items c.items) }
+    // The result equals another canonical stream exactly if the display lists are equal.
+    ensures equal { IfOk result (λ c. (other : ℕ) (d q : List ℕ) → IsCanonicalOf other d q →
+        (c.items ≡ d) ↔ (list_of budget bytes.now ≡ list_of other q)) }
+    ensures refused { IfErr result (λ r. r.fault ≢ Fault.Memory → (means budget bytes.now).refusal ≡ Some r) }
+    ensures memory { IfErr result (λ r. r.fault ≡ Fault.Memory → LacksMemoryAt budget bytes.now r.place) }
+{
+    match page_text(alloc, budget, bytes) {
+        Ok(Ok(found)) => Ok(found.text),
+        Ok(Err(refusal)) => Err(refusal),
+        Err(AllocError) => Err(refusal_or_memory(alloc, budget, bytes)),
     }
 }

@@ -1,15 +1,12 @@
 //! Entries whose attributes are already current.
-ghost use Rattle.std.specs.Prelude.{◌≡◌, ◌↔◌, IsTrue, true};
-ghost use Rattle.nap_list.specs.declared.entry.Entry.TheVariants.{Line, Rect};
-ghost use Rattle.nap_list.specs.Agreement.{AreCurrent};
-ghost use Rattle.nap_list.specs.Batches.{FirstIsCurrent};
-ghost use Rattle.nap_list.specs.Entry.{colour_only, ink_attributes};
-ghost use Rattle.nap_list.specs.Shapes.{entry_of_shape};
-ghost use Rattle.nap_list.specs.State.{Fits, after, ink_of};
+ghost use Rattle.std.specs.Prelude.{◌≡◌, ◌↔◌, IsTrue, true, ◌<◌, ◌≤◌, ◌+◌, ◌∷◌, length, take, drop};
+ghost use Rattle.nap_list.specs.declared.entry.Entry.TheVariants.{Char, Line, Rect, Point as PointEntry};
+ghost use Rattle.nap_canon.specs.Names.{AreCurrent, FirstIsCurrent, Fits, after, colour_only, entry_of_shape, hand_attributes, ink_attributes, ink_of, point_attributes};
 
 use crate::command::is_colour;
-use nap_list::{Base, Batch, Colour, Drawing, Entry, Ink, Pen, Shape, State, corner};
-use nap_values::Point;
+use nap_codes::CharSet;
+use nap_list::{Base, Batch, Colour, Drawing, Entry, Hand, Ink, Pen, Shape, WrittenState, corner};
+use nap_values::{Move, Point};
 
 /// Whether a colour is current; a direct colour has to be the colour of mode 0 too.
 #[inline(always)]
@@ -30,15 +27,29 @@ pub(crate) fn ink_is_current(old: &Drawing, ink: &Ink) -> bool
     old.pel == ink.pel && old.texture == ink.texture && colour_is_current(old, ink.colour)
 }
 
+/// Whether all attributes for text are current.
+#[inline(always)]
+pub(crate) fn hand_is_current(old: &Drawing, hand: &Hand) -> bool
+    ensures { IsTrue result ↔ AreCurrent (hand_attributes hand.now) old.now }
+{
+    old.pen == hand.pen && old.text.is_look(&hand.text) && colour_is_current(old, hand.colour)
+}
+
+/// Whether the pel and the colour are current.
+#[inline(always)]
+pub(crate) fn point_is_current(old: &Drawing, pel: Move, colour: Colour) -> bool
+    ensures { IsTrue result ↔ AreCurrent (point_attributes pel colour) old.now }
+{
+    old.pel == pel && colour_is_current(old, colour)
+}
+
 /// Whether the attributes of a batch's first entry are current.
 #[inline(always)]
 pub(crate) fn batch_begins_current(old: &Drawing, batch: &Batch) -> bool
     ensures { IsTrue result ↔ FirstIsCurrent batch.now old.now }
 {
     match batch {
-        Batch::Points { drawing, .. } => {
-            old.pel == drawing.pel && colour_is_current(old, drawing.colour)
-        }
+        Batch::Points { drawing, .. } => point_is_current(old, drawing.pel, drawing.colour),
         Batch::Lines { drawing, .. } => ink_is_current(old, &drawing.ink()),
         Batch::Text { .. } => old.first_is_current(batch),
     }
@@ -46,13 +57,12 @@ pub(crate) fn batch_begins_current(old: &Drawing, batch: &Batch) -> bool
 
 /// Advances past a shape, whose attributes may be known to be current.
 #[inline(always)]
-pub(crate) fn step_shape(state: &mut State, shape: &Shape, is_current: bool)
+pub(crate) fn step_shape(state: &mut WrittenState, shape: &Shape, is_current: bool)
     requires { is_current ≡ true → AreCurrent (ink_attributes (ink_of shape.now.drawing.now)) state.old.drawing }
     ensures { state.new ≡ after state.old (entry_of_shape shape.now) }
 {
     if is_current {
-        state.drawing.pen = Pen::At(shape.end());
-        state.last = None;
+        state.move_pen_along(shape);
         return;
     }
     state.step_shape(shape);
@@ -60,27 +70,33 @@ pub(crate) fn step_shape(state: &mut State, shape: &Shape, is_current: bool)
 
 /// Advances past a line, whose attributes may be known to be current.
 #[inline(always)]
-pub(crate) fn step_line(state: &mut State, from: Point, to: Point, ink: &Ink, is_current: bool)
+pub(crate) fn step_line(
+    state: &mut WrittenState,
+    from: Point,
+    to: Point,
+    ink: &Ink,
+    is_current: bool,
+)
     requires fits { Fits state.old (Line from to ink.now) }
     requires current { is_current ≡ true → AreCurrent (ink_attributes ink.now) state.old.drawing }
     ensures { state.new ≡ after state.old (Line from to ink.now) }
 {
-    if is_current {
-        state.drawing.pen = Pen::At(to);
-        state.last = None;
-        return;
-    }
-    state.step(&Entry::Line {
+    let entry = Entry::Line {
         from,
         to,
         ink: *ink,
-    });
+    };
+    if is_current {
+        state.move_pen(Pen::At(to), &entry);
+        return;
+    }
+    state.step(&entry);
 }
 
 /// Advances past a rectangle, whose attributes may be known to be current.
 #[inline(always)]
 pub(crate) fn step_rect(
-    state: &mut State,
+    state: &mut WrittenState,
     filled: bool,
     from: Point,
     to: Point,
@@ -91,15 +107,81 @@ pub(crate) fn step_rect(
     requires current { is_current ≡ true → AreCurrent (ink_attributes ink.now) state.old.drawing }
     ensures { state.new ≡ after state.old (Rect filled from to ink.now) }
 {
-    if is_current {
-        state.drawing.pen = Pen::At(corner(from, to));
-        state.last = None;
-        return;
-    }
-    state.step(&Entry::Rect {
+    let entry = Entry::Rect {
         filled,
         from,
         to,
         ink: *ink,
-    });
+    };
+    if is_current {
+        state.move_pen(Pen::At(corner(from, to)), &entry);
+        return;
+    }
+    state.step(&entry);
+}
+
+/// Advances past a point, whose attributes may be known to be current.
+#[inline(always)]
+pub(crate) fn step_point(
+    state: &mut WrittenState,
+    at: Point,
+    pel: Move,
+    colour: Colour,
+    is_current: bool,
+)
+    requires fits { Fits state.old (PointEntry at pel colour) }
+    requires current { is_current ≡ true → AreCurrent (point_attributes pel colour) state.old.drawing }
+    ensures { state.new ≡ after state.old (PointEntry at pel colour) }
+{
+    let entry = Entry::Point { at, pel, colour };
+    if is_current {
+        state.move_pen(Pen::At(at), &entry);
+        return;
+    }
+    state.step(&entry);
+}
+
+/// Advances past a character, whose attributes may be known to be current.
+#[inline(always)]
+pub(crate) fn step_char(
+    state: &mut WrittenState,
+    set: CharSet,
+    code: u8,
+    hand: &Hand,
+    is_current: bool,
+)
+    requires fits { Fits state.old (Char set code hand.now) }
+    requires current { is_current ≡ true → AreCurrent (hand_attributes hand.now) state.old.drawing }
+    ensures { state.new ≡ after state.old (Char set code hand.now) }
+{
+    let entry = Entry::Char {
+        set,
+        code,
+        hand: *hand,
+    };
+    if is_current {
+        state.move_pen(Pen::After, &entry);
+        return;
+    }
+    state.step(&entry);
+}
+
+/// Returns the item of a slice at an index.
+#[inline(always)]
+pub(crate) fn item<X: Copy>(items: &[X], index: usize) -> X
+    requires { index < length items.now }
+    ensures { drop index items.now ≡ result ∷ drop (index + 1) items.now }
+{
+    items[index]
+}
+
+/// Returns `count` items of a slice, from `first` on.
+#[inline(always)]
+pub(crate) fn part<X>(items: &[X], first: usize, count: usize) -> &[X]
+    requires { count + first ≤ length items.now }
+    ensures { result.now ≡ take count (drop first items.now) }
+{
+    let (_, rest) = items.split_at(first);
+    let (part, _) = rest.split_at(count);
+    part
 }

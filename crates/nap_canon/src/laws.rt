@@ -2,7 +2,7 @@
 ghost use Rattle.nap_canon.specs.Sinking.{WritesText};
 ghost use Rattle.nap_canon.specs.Laws.{PreludeLeads, TextOfPrefix, TextIsPlain, PlainOperandLengths, TextIsRead, TextLeads, FormsAgree, CanonicalStreamsAgree};
 
-use crate::form::Form;
+use crate::text::Form;
 use nap_list::Outlet;
 
 /// The prelude of an entry that fits makes its attributes current, and draws nothing.

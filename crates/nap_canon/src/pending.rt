@@ -9,18 +9,16 @@ ghost use Rattle.nap_canon.specs.Writing.{AppendsPiece};
 ghost use Rattle.nap_canon.specs.Buffers.{buffer_limit};
 
 use crate::byte_buffer::ByteBuffer;
-use crate::form::Form;
+use crate::text::Form;
 use crate::text_end::{Run, TextEnd};
 use nap_codes::GSet;
 use nap_values::Word;
 
 mod batches;
-mod characters;
-mod figures;
 mod prelude;
 mod spelling;
 
-pub(crate) use figures::{Path, path_of, shape_opcode};
+pub(crate) use spelling::{Path, path_of, shape_opcode};
 
 /// The bytes of the opcodes of canonical text.
 pub(crate) mod opcodes {

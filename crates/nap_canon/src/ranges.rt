@@ -1,10 +1,7 @@
 //! The ranges of the parts of an entry, which their types ensure. The functions do nothing; their contracts state the
 //! ranges.
 ghost use Rattle.std.specs.Prelude.{All};
-ghost use Rattle.nap_values.specs.Coordinates.{IsInSquare, IsInRange};
-ghost use Rattle.nap_values.specs.Colours.{HasSixteenBitParts};
-ghost use Rattle.nap_values.specs.Laws.{IsWord};
-ghost use Rattle.nap_list.specs.Range.{IsAddress, IsByte, StepInRange, PenInRange, ColourInRange, TextureInRange, SizeInRange, TextInRange, AreaInRange, InRange};
+ghost use Rattle.nap_canon.specs.Names.{AreaInRange, ColourInRange, HasSixteenBitParts, InRange, IsAddress, IsByte, IsInRange, IsInSquare, IsWord, PenInRange, SizeInRange, StepInRange, TextInRange, TextureInRange};
 ghost use Rattle.nap_canon.specs.Range.{AttributesInRange};
 
 use nap_codes::TextStep;

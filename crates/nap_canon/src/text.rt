@@ -1,18 +1,48 @@
 //! The canonical text of a display list (PROFILE.md, Canonical text).
 ghost use Rattle.std.specs.Prelude.{◌≡◌, ◌↔◌, ℕ, IsErrOf, IfOk, OnOk};
-ghost use Rattle.nap_list.specs.State.{Legal, AllFit, IsIllegalAt, start};
-ghost use Rattle.nap_list.specs.Range.{AllInRange};
+ghost use Rattle.nap_canon.specs.declared.text.CanonFault.TheVariants.{Memory};
+ghost use Rattle.nap_canon.specs.Names.{AllFit, AllInRange, IsIllegalAt, Legal, start};
 ghost use Rattle.nap_canon.specs.TextAnswers.{IsTextAnswer};
 ghost use Rattle.nap_canon.specs.Laws.{IsReadAs};
 ghost use Rattle.nap_canon.specs.Plain.{IsPlain};
 ghost use Rattle.nap_canon.specs.Text.{text_in, text, text1};
+ghost use Rattle.nap_canon.specs.PageTexts.{IsPageText, refusal_of_text};
 
 use crate::canon_sink::CanonSink;
-use crate::fault::CanonFault;
-use crate::form::Form;
 use crate::ranges::in_range;
 use nap_list::{Entry, Target, legal};
+use nap_reader::{Budget, Fault, Refusal, read_counted};
 use std::alloc::{AllocError, Global};
+use thiserror::Error;
+
+/// A form of canonical text.
+#[derive(Clone, Copy, Drop)]
+pub(crate) enum Form {
+    /// Form 1: each entry has its own opcode, and each line both its points.
+    One,
+    /// Form 2: points, lines and rectangles may join the run of their opcode, and a line that starts at the pen has
+    /// only its end.
+    Two,
+}
+
+/// Why a display list has no canonical text.
+#[derive(Clone, Copy, PartialEq, Eq, Debug, Drop, Error)]
+pub enum CanonFault {
+    /// The index of the first entry that doesn't fit, or the length if a definition is left open.
+    #[error("the display list is not legal at {0}")]
+    Illegal(usize),
+    /// Memory ran out for the text.
+    #[error("no memory")]
+    Memory,
+}
+
+impl From<AllocError> for CanonFault {
+    ghost from_gives = { λ _ e. e ≡ Memory };
+
+    fn from(_: AllocError) -> Self {
+        CanonFault::Memory
+    }
+}
 
 /// The number of bytes of the header.
 const HEADER: usize = 3;
@@ -79,4 +109,48 @@ pub fn canon_form1(alloc: Global, entries: &[Entry]) -> Result<Vec<u8>, CanonFau
     ensures memory { IsErrOf result CanonFault.Memory → Legal entries.now }
 {
     canon_in(alloc, Form::One, entries)
+}
+
+/// The canonical text of a page, and the number of its entries, if a `u64` can hold it.
+#[derive(Drop)]
+pub struct PageText {
+    /// The bytes of the text.
+    pub text: Vec<u8>,
+    /// The number of entries.
+    pub count: Option<u64>,
+}
+
+/// Returns the refusal of a page whose text is kept in memory, where a failed sink is lack of memory.
+pub fn refusal_of_text(refusal: Refusal) -> Refusal
+    ensures { result ≡ refusal_of_text refusal }
+{
+    match refusal.fault {
+        Fault::Sink => Refusal {
+            fault: Fault::Memory,
+            place: refusal.place,
+        },
+        _ => refusal,
+    }
+}
+
+/// Returns the canonical text of a page, or its refusal. The text is written to memory as the page is read, and no
+/// entry is kept. The outer error is lack of memory before anything is read.
+pub fn page_text(
+    alloc: Global,
+    budget: Budget,
+    page: &[u8],
+) -> Result<Result<PageText, Refusal>, AllocError>
+    ensures { IfOk result (λ found. IsPageText budget page.now found) }
+{
+    let sink = CanonSink::new(Target::new(Vec::new(alloc)));
+    if sink.failed() {
+        return Err(AllocError);
+    }
+    match read_counted(alloc, budget, page, sink) {
+        Ok((sink, count)) => {
+            let text = sink.close().into_inner();
+            Ok(Ok(PageText { text, count }))
+        }
+        Err(refusal) => Ok(Err(refusal_of_text(refusal))),
+    }
 }

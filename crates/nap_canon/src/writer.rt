@@ -3,9 +3,7 @@ ghost use Rattle.std.specs.Prelude.{◌≡◌, ◌≤◌, ◌+◌, ◌∷◌, le
 ghost use Rattle.nap_codes.specs.declared.code_set.GSet.TheVariants.{G1};
 ghost use Rattle.nap_canon.specs.declared.text_end.TextEnd.TheVariants.{NoRun};
 ghost use Rattle.nap_list.specs.declared.entry.Entry.TheVariants.{Line, Rect, Char, Map};
-ghost use Rattle.nap_list.specs.Entry.{attributes};
-ghost use Rattle.nap_list.specs.Shapes.{entry_of_shape, circle_closed};
-ghost use Rattle.nap_list.specs.State.{start, with_attributes, Fits};
+ghost use Rattle.nap_canon.specs.Names.{Fits, attributes, circle_closed, entry_of_shape, start, with_attributes};
 ghost use Rattle.nap_canon.specs.Spelling.{displacement_bytes, opcode, shape_bytes, shape, spelling_pieces};
 ghost use Rattle.nap_canon.specs.Text.{header, gl_of, text_end_after_header};
 ghost use Rattle.nap_canon.specs.Writing.{Puts, WritesBytes, WritesPendingAnd, WritesPieces};
@@ -14,14 +12,13 @@ ghost use Rattle.nap_canon.specs.Buffers.{buffer_limit};
 use crate::byte_buffer::ByteBuffer;
 use crate::byte_sink::ByteSink;
 use crate::current::step_shape;
-use crate::form::Form;
 use crate::pending::{Path, Pending, opcodes, path_of, shape_opcode};
+use crate::text::Form;
 use crate::text_end::TextEnd;
 use nap_codes::GSet;
-use nap_list::{Entry, Shape, ShapeKind, State, line_start};
+use nap_list::{Entry, Shape, ShapeKind, WrittenState, line_start};
 use nap_values::Point;
 
-mod figures;
 mod joining;
 mod single;
 mod starting;
@@ -39,7 +36,7 @@ pub(crate) struct Writer<T: ByteSink + Drop> {
     form: Form,
     /// The text that isn't written yet.
     pending: Pending,
-    state: State,
+    state: WrittenState,
 }
 
 impl<T: ByteSink + Drop> Writer<T> {
@@ -57,7 +54,7 @@ impl<T: ByteSink + Drop> Writer<T> {
                 text_end: TextEnd::NoRun(GSet::G1),
                 bytes: ByteBuffer::new(),
             },
-            state: State::start(),
+            state: WrittenState::start(),
         }
     }
 
@@ -178,7 +175,7 @@ impl<T: ByteSink + Drop> Writer<T> {
             return self.write_shape(path);
         }
         self.pending
-            .append_spelling(self.form, &self.state.drawing, entry);
+            .append_spelling(self.form, self.state.drawing(), entry);
         self.target.write_all(self.pending.bytes.as_slice())
     }
 
@@ -189,7 +186,7 @@ impl<T: ByteSink + Drop> Writer<T> {
         ensures { Puts T.sent entry.now self.old self.new result }
     {
         self.pending.bytes.clear();
-        self.pending.append_prelude(&self.state.drawing, entry);
+        self.pending.append_prelude(self.state.drawing(), entry);
         self.write_spelling(entry)?;
         self.state.step(entry);
         Ok(())
@@ -225,7 +222,7 @@ impl<T: ByteSink + Drop> Writer<T> {
         self.pending.bytes.clear();
         let is_current = self
             .pending
-            .append_ink_prelude(&self.state.drawing, &shape.drawing.ink());
+            .append_drawing_prelude(self.state.drawing(), shape.drawing);
         self.write_shape_spelling(shape)?;
         step_shape(&mut self.state, shape, is_current);
         Ok(())

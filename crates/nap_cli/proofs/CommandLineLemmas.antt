@@ -1,17 +1,15 @@
-use Rattle.std.proofs.Common.{◌≡◌, ◌⊎◌, ◌∙◌, inl, inr, List, Option, Some, None, true, refl, sym, ap, ap₂, subst, codes, option_map}
-use Rattle.std.specs.Box.{box_value}
-use Rattle.std.specs.Prelude.{Box, MatchOption, []}
-use Rattle.clap.specs.Words.{HasKind, HasMatchesOf, Row, Text, fault_of, is_simple, is_simple_and_free, kind_of, one_of, subcommand_name_of, subcommand_of, subcommand_rows}
-use Rattle.clap.specs.declared.error.kind.ErrorKind.{ErrorKind}
-use Rattle.clap.specs.declared.error.kind.ErrorKind.TheVariants as kind
+use Rattle.nap_cli.proofs.Common.{Bool, Chooses, ChoosesJob, Err, ErrorKind, HasKind, HasMatchesOf, IsBudget, IsFault, List, None, Option, Row, SaysJob, Some, Text, action_name, ap, ap₂, arith, codes, command_line, false, fault_of, inl, inr, is_simple, is_simple_and_free, job_name, kind_of, most_budget, one_of, option_map, option_text, refl, subcommand_name_of, subcommand_of, subcommand_rows, subst, sym, true, ℕ, ◌<◌, ◌^◌, ◌∙◌, ◌≡◌, ◌≢◌, ◌≤◌, ◌⊎◌}
+use Rattle.std.proofs.lemmas.Option.{none-some, same_Some, some_pair_parts}
+use Rattle.clap.proofs.OnLiterals.{clap_on_literals}
+use Rattle.clap.specs.declared.error.Error.{Error}
 use Rattle.clap.specs.declared.parser.matches.ArgMatches.{ArgMatches}
 use Rattle.clap.specs.declared.parser.matches.ArgMatches.TheViews.{out-ArgMatches, out-SubCommand}
 use Rattle.clap.specs.declared.parser.matches.SubCommand.{SubCommand}
-use Rattle.clap.specs.declared.error.Error.{Error}
-use Rattle.clap.proofs.OnLiterals.{clap_on_literals}
 use Rattle.nap_cli.specs.declared.words.Job.{Job}
-use Rattle.nap_cli.specs.declared.words.Job.TheVariants as job
-use Rattle.nap_cli.specs.CommandLine.{Chooses, ChoosesJob, IsFault, SaysJob, action_name, command_line, option_text, job_name}
+use Rattle.std.specs.Bool.{MatchBool}
+use Rattle.std.specs.Box.{box_value}
+use Rattle.std.specs.Prelude.{Box, MatchOption, []}
+use Rattle.std.specs.Str.Parse.{IsNumeral, ParsesBool, ParsesUnsigned, digits_value, without_leading_plus}
 
 pub line_is_simple : is_simple command_line ≡ true
 unfolding clap_on_literals
@@ -30,16 +28,6 @@ name_of_rows : {Z : Type 0} (o : Option (Box SubCommand Z)) → option_map (λ (
 name_of_rows None = refl
 name_of_rows (Some b) = refl
 
-same_some : {A : Type 0} (a b : A) → Some a ≡ Some b → a ≡ b
-same_some a b h = let e : a ≡ b = cc in e
-
-some_pair : {A B : Type 0} (a x : A) (b y : B) → ◌≡◌ {A = Option (A × B)} (Some (a, b)) (Some (x, y)) → (a ≡ x) × (b ≡ y)
-some_pair {A} {B} a x b y e =
-    let left : A × B = (a, b) in
-    let right : A × B = (x, y) in
-    let same : left ≡ right = same_some left right e in
-    (ap (λ (p : A × B). p.0) same, ap (λ (p : A × B). p.1) same)
-
 some_by_parts : {A B : Type 0} (o : Option (A × B)) (a : A) (b : B) → option_map (λ (p : A × B). p.0) o ≡ Some a → option_map (λ (p : A × B). p.1) o ≡ Some b → o ≡ Some (a, b)
 some_by_parts None a b h k = let bad : ⊥ = cc in absurd bad
 some_by_parts (Some p) a b h k =
@@ -50,9 +38,6 @@ some_by_parts (Some p) a b h k =
 none_by_part : {A B : Type 0} (o : Option (A × B)) → option_map (λ (p : A × B). p.0) o ≡ None → o ≡ None
 none_by_part None h = refl
 none_by_part (Some p) h = let bad : ⊥ = cc in absurd bad
-
-pub none_or_some : {A : Type 0} (a : A) → None ≡ Some a → ⊥
-none_or_some a h = let bad : ⊥ = cc in bad
 
 -- the name and the rows of the command that clap entered are those of the words
 pub entered_by : (words : List Text) (m : ArgMatches) (name : Text) (rows : List Row) → HasMatchesOf command_line words m → subcommand_name_of m ≡ Some name
@@ -67,20 +52,20 @@ entered_none words m has named = sym (has line_is_simple).1 ∙ none_by_part (su
 -- what clap found is no job's
 pub nothing_chosen : (words : List Text) (name : Text) (rows : List Row) → subcommand_of command_line words ≡ Some (name, rows)
     → ((j : Job) → job_name j ≡ name → ChoosesJob rows j → ⊥) → (j : Job) → SaysJob words j → ⊥
-nothing_chosen words name rows entered none (job.Page c) says =
-    let same = some_pair (action_name c.action) name says.rows rows (sym says.entered ∙ entered) in
-    none (job.Page c) same.0 (subst (λ (x : List Row). Chooses x c) same.1 says.chooses)
-nothing_chosen words name rows entered none (job.Make stream) says =
-    let same = some_pair (codes "make") name says.rows rows (sym says.entered ∙ entered) in
-    none (job.Make stream) same.0 (subst (λ (x : List Row). one_of (codes "stream") x ≡ Some (option_text stream)) same.1 says.chooses)
-nothing_chosen words name rows entered none job.Batch says =
-    let same = some_pair (codes "batch") name says.rows rows (sym says.entered ∙ entered) in
-    none job.Batch same.0 tt
+nothing_chosen words name rows entered none (Job.Page c) says =
+    let same = some_pair_parts (action_name c.action) name says.rows rows (sym says.entered ∙ entered) in
+    none (Job.Page c) same.0 (subst (λ (x : List Row). Chooses x c) same.1 says.chooses)
+nothing_chosen words name rows entered none (Job.Make stream) says =
+    let same = some_pair_parts (codes "make") name says.rows rows (sym says.entered ∙ entered) in
+    none (Job.Make stream) same.0 (subst (λ (x : List Row). one_of (codes "stream") x ≡ Some (option_text stream)) same.1 says.chooses)
+nothing_chosen words name rows entered none Job.Batch says =
+    let same = some_pair_parts (codes "batch") name says.rows rows (sym says.entered ∙ entered) in
+    none Job.Batch same.0 tt
 
 pub nothing_entered : (words : List Text) → subcommand_of command_line words ≡ None → (j : Job) → SaysJob words j → ⊥
-nothing_entered words entered (job.Page c) says = none_or_some (action_name c.action, says.rows) (sym entered ∙ says.entered)
-nothing_entered words entered (job.Make stream) says = none_or_some (codes "make", says.rows) (sym entered ∙ says.entered)
-nothing_entered words entered job.Batch says = none_or_some (codes "batch", says.rows) (sym entered ∙ says.entered)
+nothing_entered words entered (Job.Page c) says = none-some (action_name c.action, says.rows) (sym entered ∙ says.entered)
+nothing_entered words entered (Job.Make stream) says = none-some (codes "make", says.rows) (sym entered ∙ says.entered)
+nothing_entered words entered Job.Batch says = none-some (codes "batch", says.rows) (sym entered ∙ says.entered)
 
 -- a job, or none, with the options that clap found
 module _ (words : List Text) (m : ArgMatches) (name : Text) (rows : List Row) (has : HasMatchesOf command_line words m) (named : Some name ≡ subcommand_name_of m)
@@ -92,19 +77,60 @@ module _ (words : List Text) (m : ArgMatches) (name : Text) (rows : List Row) (h
   found = entered_by words m name rows has (sym named) (sym rowed)
 
   made : (j : Job) → fault_of command_line words ≡ [] → job_name j ≡ name → ChoosesJob rows j → SaysJob words j
-  made (job.Page c) right same chosen = record { right = right; rows = rows; entered = found ∙ ap (λ (t : Text). Some (t, rows)) (sym same); chooses = chosen }
-  made (job.Make stream) right same chosen = record { right = right; rows = rows; entered = found ∙ ap (λ (t : Text). Some (t, rows)) (sym same); chooses = chosen }
-  made job.Batch right same chosen = record { right = right; rows = rows; entered = found ∙ ap (λ (t : Text). Some (t, rows)) (sym same) }
+  made (Job.Page c) right same chosen = record { right = right; rows = rows; entered = found ∙ ap (λ (t : Text). Some (t, rows)) (sym same); chooses = chosen }
+  made (Job.Make stream) right same chosen = record { right = right; rows = rows; entered = found ∙ ap (λ (t : Text). Some (t, rows)) (sym same); chooses = chosen }
+  made Job.Batch right same chosen = record { right = right; rows = rows; entered = found ∙ ap (λ (t : Text). Some (t, rows)) (sym same) }
 
   pub says_job : (r : Option Job) (j : Job) → fault_of command_line words ≡ [] → IsJob r → r ≡ Some j → SaysJob words j
-  says_job None j right h is = absurd (none_or_some j is)
-  says_job (Some k) j right h is = subst (SaysJob words) (same_some k j is) (made k right h.0 h.1)
+  says_job None j right h is = absurd (none-some j is)
+  says_job (Some k) j right h is = subst (SaysJob words) (same_Some k j is) (made k right h.0 h.1)
 
   pub says_nothing : (r : Option Job) → IsJob r → r ≡ None → (j : Job) → SaysJob words j → ⊥
   says_nothing None h is = nothing_chosen words name rows found h
-  says_nothing (Some k) h is = absurd (none_or_some k (sym is))
+  says_nothing (Some k) h is = absurd (none-some k (sym is))
 
 -- clap's error for words that ask for no command
-pub no_job_said : (words : List Text) (k : ErrorKind) → (k ≡ kind.OutOfMemory) ⊎ (k ≡ kind.MissingSubcommand) → ((j : Job) → SaysJob words j → ⊥) → IsFault words k
+pub no_job_said : (words : List Text) (k : ErrorKind) → (k ≡ ErrorKind.OutOfMemory) ⊎ (k ≡ ErrorKind.MissingSubcommand) → ((j : Job) → SaysJob words j → ⊥) → IsFault words k
 no_job_said words k (inl h) none = inl h
 no_job_said words k (inr h) none = inr (inr (h, none))
+
+-- What options say about the text that clap found.
+
+pub true_or_false : (b : Bool) → b ≡ false → b ≡ true → ⊥
+true_or_false b h k = let bad : ⊥ = cc in bad
+
+flag_is : (t : Text) (b : Bool) → MatchBool b (t ≡ codes "true") (t ≡ codes "false") → t ≡ option_text b
+flag_is t true h = h
+flag_is t false h = h
+
+-- the flag that a text names was parsed
+pub flag_read : (o : Option Text) (b : Bool) → (o ≡ None → Some b ≡ None) → ((t : Text) → o ≡ Some t → MatchBool b (t ≡ codes "true") (t ≡ codes "false")) → o ≡ Some (option_text b)
+flag_read None b none value = absurd (none-some b (sym (none refl)))
+flag_read (Some t) b none value = ap Some (flag_is t b (value t refl))
+
+-- the number that a text of digits writes, if it fits
+abbrev IsNumber : Text → ℕ → Type 0
+IsNumber t n = (IsNumeral 10 (without_leading_plus t) × (digits_value 10 (without_leading_plus t) < 2 ^ 32)) × (n ≡ digits_value 10 (without_leading_plus t))
+
+-- the number of digits was parsed
+pub number_read : (o : Option Text) (n : ℕ) → (o ≡ None → Some n ≡ None) → ((t : Text) → o ≡ Some t → IsNumber t n) → n ≤ most_budget →
+    (t : Text) × (o ≡ Some t) × IsBudget t n
+number_read None n none value most = absurd (none-some n (sym (none refl)))
+number_read (Some t) n none value most = let h = value t refl in (t, refl, (h.0.0, sym h.1, most))
+
+-- a budget is the number that was parsed
+pub number_same : (o : Option Text) (m : ℕ) → ((t : Text) → o ≡ Some t → IsNumber t m) → (t : Text) (n : ℕ) → o ≡ Some t → IsBudget t n → m ≤ most_budget
+number_same o m value t n is h = omega (arith, h.1, h.2, (value t is).1)
+
+flag_isnt : (b : Bool) → (option_text b ≢ codes "true") × (option_text b ≢ codes "false") → ⊥
+flag_isnt true h = h.0 refl
+flag_isnt false h = h.1 refl
+
+module _ {E : Type 0} where
+  -- the text of a flag is parsed
+  pub flag_unread : (o : Option Text) → ((t : Text) → o ≡ Some t → (e : E) × ParsesBool {E = E} t (Err e)) → (b : Bool) → o ≡ Some (option_text b) → ⊥
+  flag_unread o value b is = flag_isnt b (value (option_text b) is).1
+
+  -- the text of a budget is parsed
+  pub number_unread : (o : Option Text) → ((t : Text) → o ≡ Some t → (e : E) × ParsesUnsigned {E = E} 32 10 t (Err e)) → (t : Text) (n : ℕ) → o ≡ Some t → IsBudget t n → ⊥
+  number_unread o value t n is h = (value t is).1 (h.0, omega (arith, h.1, h.2))

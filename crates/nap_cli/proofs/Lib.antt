@@ -1,4 +1,3 @@
+mod Common
 pub mod CommandLineLemmas
 pub mod ExplainLemmas
-pub mod OptionLemmas
-pub mod PlainLemmas

@@ -2,20 +2,17 @@ use Rattle.std.specs.Prelude.{◌≡◌, ◌⊎◌, ◌≤◌, ℕ, Bool, true, 
 use Rattle.std.specs.Str.Parse.{IsNumeral, digits_value, without_leading_plus}
 use Rattle.clap.specs.Words.{App, IsAmong, Row, Rule, Text, fault_of, new_app, new_rule, one_of, subcommand_of, with_rule, with_subcommand}
 use Rattle.clap.specs.declared.error.kind.ErrorKind.{ErrorKind}
-use Rattle.clap.specs.declared.error.kind.ErrorKind.TheVariants as kind
 use Rattle.clap.specs.declared.builder.ArgAction.TheVariants.{SetTrue}
 use Rattle.clap.specs.declared.builder.value_parser.ValueParser.TheVariants.{Signed}
 use Rattle.nap_reader.specs.Budgets.{most_budget, usual_budget}
 use Rattle.nap_command.specs.declared.command.Action.{Action}
-use Rattle.nap_command.specs.declared.command.Action.TheVariants as action
 use Rattle.nap_command.specs.declared.command.Command.{Command}
 use Rattle.nap_command.specs.Devices.{Devices}
-use Rattle.nap_list.specs.declared.device.inlet.Inlet as inlet
+use Rattle.nap_list.specs.declared.device.Inlet as inlet
 use Rattle.nap_command.specs.Commands.{Ran}
 use Rattle.nap_command.specs.Making.{Made}
 use Rattle.nap_command.specs.Sessions.{Served}
 use Rattle.nap_cli.specs.declared.words.Job.{Job}
-use Rattle.nap_cli.specs.declared.words.Job.TheVariants as job
 use Rattle.nap_cli.specs.Explaining.{Explains, Unread, outputs_of}
 
 -- The command line as clap parses it.
@@ -70,9 +67,9 @@ abbrev pub command_line : App
 command_line = command_line_by (decimal usual_budget)
 
 abbrev pub action_name : Action → Text
-action_name action.List = codes "list"
-action_name action.Check = codes "check"
-action_name action.Canon = codes "canon"
+action_name Action.List = codes "list"
+action_name Action.Check = codes "check"
+action_name Action.Canon = codes "canon"
 
 -- the text of an option that is given or not
 abbrev pub option_text : Bool → Text
@@ -86,7 +83,7 @@ IsBudget text n =
 
 -- only `canon` has `--stream`
 abbrev pub ChoosesStream : Action → List Row → Bool → Type 0
-ChoosesStream action.Canon rows stream = one_of (codes "stream") rows ≡ Some (option_text stream)
+ChoosesStream Action.Canon rows stream = one_of (codes "stream") rows ≡ Some (option_text stream)
 ChoosesStream _ rows stream = stream ≡ false
 
 -- the options that clap parsed are those of this command
@@ -119,25 +116,25 @@ pub record SaysMake (words : List Text) (stream : Bool) : Type 0 where
 
 -- words that ask for a command on one page, `make` or `batch`
 abbrev pub SaysJob : List Text → Job → Type 0
-SaysJob words (job.Page c) = Says words c
-SaysJob words (job.Make stream) = SaysMake words stream
-SaysJob words job.Batch = SaysBatch words
+SaysJob words (Job.Page c) = Says words c
+SaysJob words (Job.Make stream) = SaysMake words stream
+SaysJob words Job.Batch = SaysBatch words
 
 abbrev pub job_name : Job → Text
-job_name (job.Page c) = action_name c.action
-job_name (job.Make stream) = codes "make"
-job_name job.Batch = codes "batch"
+job_name (Job.Page c) = action_name c.action
+job_name (Job.Make stream) = codes "make"
+job_name Job.Batch = codes "batch"
 
 -- the options that clap parsed are those of this job
 abbrev pub ChoosesJob : List Row → Job → Type 0
-ChoosesJob rows (job.Page c) = Chooses rows c
-ChoosesJob rows (job.Make stream) = one_of (codes "stream") rows ≡ Some (option_text stream)
-ChoosesJob rows job.Batch = Unit {0}
+ChoosesJob rows (Job.Page c) = Chooses rows c
+ChoosesJob rows (Job.Make stream) = one_of (codes "stream") rows ≡ Some (option_text stream)
+ChoosesJob rows Job.Batch = Unit {0}
 
 -- what clap finds in words that ask for no command: this kind of error, or lack of memory
 abbrev pub IsFault : List Text → ErrorKind → Type 0
 IsFault words k =
-    (k ≡ kind.OutOfMemory) ⊎ (IsAmong k (fault_of command_line words) ⊎ ((k ≡ kind.MissingSubcommand) × ((j : Job) → SaysJob words j → ⊥)))
+    (k ≡ ErrorKind.OutOfMemory) ⊎ (IsAmong k (fault_of command_line words) ⊎ ((k ≡ ErrorKind.MissingSubcommand) × ((j : Job) → SaysJob words j → ⊥)))
 
 -- The program ran on an input, from the devices before to those after: it executed the command that the words ask for;
 -- or they ask for none, nothing was read, and what clap found was printed or reported.

@@ -1,16 +1,46 @@
-use Rattle.std.specs.Prelude.{ℕ, ◌≡◌, ◌⊎◌, Bool, true, false, List, Option, Result, Ok, Err}
+use Rattle.std.specs.Prelude.{Bool, Err, List, Ok, Option, Result, [], false, flat_map, if◌then◌else◌, map, nat_le, true, ℕ, ◌%◌, ◌&&◌, ◌/◌, ◌==◌, ◌||◌, ◌∷◌, ◌≡◌, ◌⊎◌}
+use Rattle.std.specs.Char.{digit_char}
+use Rattle.std.specs.List.{list_all}
 use Rattle.std.specs.Io.KnownBytes.{Appends}
 use Rattle.clap.specs.declared.error.kind.ErrorKind.{ErrorKind}
-use Rattle.clap.specs.declared.error.kind.ErrorKind.TheVariants as kind
-use Rattle.nap_list.specs.declared.device.outlet.Outlet as outlet
+use Rattle.nap_list.specs.declared.device.Outlet as outlet
 use Rattle.nap_list.specs.Flushing.{flush_count}
 use Rattle.nap_command.specs.declared.answer.Verdict.{Verdict}
-use Rattle.nap_command.specs.declared.answer.Verdict.TheVariants as verdict
 use Rattle.nap_command.specs.declared.failure.Failure.{Failure}
-use Rattle.nap_command.specs.declared.failure.Failure.TheVariants as failure
 use Rattle.nap_command.specs.Devices.{Devices, TakesText}
 use Rattle.nap_command.specs.Commands.{Reports}
-use Rattle.nap_cli.specs.Plain.{IsPlainText}
+
+-- a printable character of ASCII, from the space to `~`
+abbrev pub is_printable : ℕ → Bool
+is_printable b = nat_le 32 b && nat_le b 126
+
+-- the escape of a byte, as `\x1b`: a backslash, an x, and two lower-case hexadecimal digits
+abbrev pub byte_escape : ℕ → List ℕ
+byte_escape b = 92 ∷ 120 ∷ digit_char (b / 16) ∷ digit_char (b % 16) ∷ []
+
+-- whether a byte is shown as itself: a printable character of ASCII, and LF where line ends stay
+abbrev pub stays : Bool → ℕ → Bool
+stays lines b = is_printable b || (lines && (b == 10))
+
+-- how a byte is shown: as itself, or as its escape
+abbrev pub shown : Bool → ℕ → List ℕ
+shown lines b = if stays lines b then b ∷ [] else byte_escape b
+
+-- how a text is shown: each of its bytes in turn
+abbrev pub shown_text : Bool → List ℕ → List ℕ
+shown_text lines text = flat_map (shown lines) text
+
+-- how words are shown, in which no line end stays
+abbrev pub shown_words : List (List ℕ) → List (List ℕ)
+shown_words words = map (shown_text false) words
+
+-- a printable character of ASCII, or LF
+abbrev pub is_plain : ℕ → Bool
+is_plain b = (b == 10) || is_printable b
+
+-- text that a terminal shows: each byte is plain
+abbrev pub IsPlainText : List ℕ → Type 0
+IsPlainText text = list_all is_plain text ≡ true
 
 -- The two outputs of a command: the bytes that they took, if they tell them; whether the first was flushed after its
 -- last write, and the number of flushes; which have failed, and whether a write of the first has.
@@ -66,9 +96,9 @@ FlushesOnce before after = before.write_failed ≡ false → after.flushes ≡ f
 -- The output took help, which has this text, and the command ended like this: the output took all of it and was
 -- flushed, or it failed after a prefix, or memory ran out for the text.
 abbrev pub PrintsHelp : Outputs → Outputs → List ℕ → Result Verdict Failure → Type 0
-PrintsHelp before after text (Ok verdict.Accepted) = TakesText before.taken after.taken text (Ok tt) × (after.failed ≡ before.failed) × (after.sent ≡ true) × FlushesOnce before after
-PrintsHelp before after text (Err (failure.Write taken)) = TakesText before.taken after.taken text (Err (failure.Write taken)) × (after.failed ≡ true) × FlushesOnce before after
-PrintsHelp before after text (Err failure.Memory) = Unprinted before after
+PrintsHelp before after text (Ok Verdict.Accepted) = TakesText before.taken after.taken text (Ok tt) × (after.failed ≡ before.failed) × (after.sent ≡ true) × FlushesOnce before after
+PrintsHelp before after text (Err (Failure.Write taken)) = TakesText before.taken after.taken text (Err (Failure.Write taken)) × (after.failed ≡ true) × FlushesOnce before after
+PrintsHelp before after text (Err Failure.Memory) = Unprinted before after
 PrintsHelp before after text _ = ⊥
 
 -- help was printed, or failed to be
@@ -85,7 +115,7 @@ pub record ReportsNoMemory (before after : Outputs) (status : ℕ) : Type 0 wher
   pub unprinted : Unprinted before after
   pub e : List ℕ
   pub reported : Appends before.reported after.reported e
-  pub tells : Reports e after.errors_failed (Err failure.Memory) status
+  pub tells : Reports e after.errors_failed (Err Failure.Memory) status
 
 -- Standard error took clap's report of the words, on which no terminal acts, and nothing was printed.
 pub record ReportsWrong (before after : Outputs) (status : ℕ) : Type 0 where
@@ -97,7 +127,7 @@ pub record ReportsWrong (before after : Outputs) (status : ℕ) : Type 0 where
 
 -- the answer to words that ask for no command, by what clap finds: help, lack of memory, or what is wrong
 abbrev pub Explains : ErrorKind → Outputs → Outputs → ℕ → Type 0
-Explains kind.DisplayHelp before after status = ShowsHelp before after status
-Explains kind.DisplayVersion before after status = ShowsHelp before after status
-Explains kind.OutOfMemory before after status = ReportsNoMemory before after status
+Explains ErrorKind.DisplayHelp before after status = ShowsHelp before after status
+Explains ErrorKind.DisplayVersion before after status = ShowsHelp before after status
+Explains ErrorKind.OutOfMemory before after status = ReportsNoMemory before after status
 Explains _ before after status = ReportsWrong before after status ⊎ ReportsNoMemory before after status

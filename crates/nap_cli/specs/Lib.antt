@@ -1,4 +1,3 @@
-pub mod Plain
 pub mod Explaining
 pub mod CommandLine
 pub mod Reporting

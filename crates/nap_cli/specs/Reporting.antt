@@ -1,7 +1,7 @@
 use Rattle.std.specs.Prelude.{ℕ, ◌≡◌, Bool, true, false, List, [], length, take, Option, Some, Err}
 use Rattle.std.specs.Io.KnownBytes.{Appends, append_known}
-use Rattle.nap_list.specs.declared.device.inlet.Inlet as inlet
-use Rattle.nap_command.specs.declared.failure.Failure.TheVariants as failure
+use Rattle.nap_list.specs.declared.device.Inlet as inlet
+use Rattle.nap_command.specs.declared.failure.Failure.{Failure}
 use Rattle.nap_command.specs.Commands.{Reports}
 use Rattle.nap_command.specs.Devices.{Devices}
 use Rattle.nap_cli.specs.CommandLine.{AnswersWords}
@@ -10,8 +10,8 @@ use Rattle.nap_cli.specs.CommandLine.{AnswersWords}
 -- number of bytes that its writer took; that memory ran out for the notes; or the notes, with the status that went with
 -- them.
 abbrev pub Tells : Bool → Bool → ℕ → List ℕ → ℕ → List ℕ → Bool → ℕ → Type 0
-Tells true lacks count notes ended e errors_failed status = Reports e errors_failed (Err (failure.Write count)) status
-Tells false true count notes ended e errors_failed status = Reports e errors_failed (Err failure.Memory) status
+Tells true lacks count notes ended e errors_failed status = Reports e errors_failed (Err (Failure.Write count)) status
+Tells false true count notes ended e errors_failed status = Reports e errors_failed (Err Failure.Memory) status
 Tells false false count notes ended e errors_failed status = (take (length e) notes ≡ e) × (errors_failed ≡ false → e ≡ notes) × (status ≡ ended)
 
 -- the devices at the start: an output that took these bytes, and notes that are empty

@@ -1,16 +1,14 @@
 //! naplps: reads NAPLPS pages and rewrites them in one canonical spelling.
 #![tactic(auto)]
 
-mod counted;
-mod plain;
 mod program;
 mod reporting;
 mod words;
 mod wrong;
 
-use counted::Counted;
 use nap_list::{Source, Target};
 pub use program::run;
+use reporting::Counted;
 pub use reporting::run_buffered;
 use std::io::BufWriter;
 use std::process::ExitCode;

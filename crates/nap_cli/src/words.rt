@@ -31,7 +31,7 @@ const BATCH: &str = "batch";
 
 /// The version of the program, which is that of the file VERSION at the top, and the form of the canonical streams that it
 /// prints.
-const VERSION: &str = "0.4.2, canonical form 2";
+const VERSION: &str = "0.4.3, canonical form 2";
 
 const USAGE: &str = "naplps COMMAND [OPTIONS] < PAGE";
 

@@ -1,6 +1,4 @@
 use Rattle.nap_codes.proofs.Common.{Bool, Code, CodeRanges, CodeSet, CodeSets, IfSome, IsCodeInRange, IsGraphic, List, OneByteOpcode, OneByteOperand, Row, Some, Spells, arith, complete, control0_rows, control1_rows, false, front, length, length-take-le, non_pdi_code, number_rows, refl, row_of, set_at, sym, take, true, ℕ, ◌<◌, ◌∙◌, ◌≡◌}
-use Rattle.nap_codes.specs.declared.code.Code.TheVariants as codes
-use Rattle.nap_codes.specs.declared.code_set.CodeSet.TheVariants as code_sets
 use Rattle.nap_codes.specs.declared.control.Row.TheVariants.{Whole}
 use Rattle.nap_codes.specs.Spelling as spelling
 use Rattle.nap_codes.proofs.RowLemmas.{row_found}
@@ -11,8 +9,8 @@ use Rattle.nap_codes.proofs.SpellingLaws.{code_is_spelled}
 
 -- whether a code is of the PDI set
 abbrev is_pdi : Code → Bool
-is_pdi (codes.Op op) = true
-is_pdi (codes.Operand word) = true
+is_pdi (Code.Op op) = true
+is_pdi (Code.Operand word) = true
 is_pdi _ = false
 
 -- the range of a code's parameters, for a code that isn't of the PDI set
@@ -38,7 +36,7 @@ number_below intermediate number e = row_found (λ _ n. n < 4) number_rows inter
 
 plain_code_is_plain : (set : CodeSet) (byte : ℕ) → IsGraphic byte → IfSome (non_pdi_code set byte) IsPlain
 unfolding non_pdi_code
-plain_code_is_plain code_sets.Pdi byte range = tt
+plain_code_is_plain CodeSet.Pdi byte range = tt
 plain_code_is_plain _ byte range = (range, refl)
 
 -- The parameters of a code that is spelled are in range, and a code of the PDI set has one byte.
@@ -93,7 +91,7 @@ pub code_ranges : CodeRanges
 code_ranges sets xs code n after e = sound_range (front_is_sound sets xs code n after e)
 
 pub one_byte_opcode : OneByteOpcode
-one_byte_opcode sets xs op n after e = one_byte sets xs (codes.Op op) n after refl e
+one_byte_opcode sets xs op n after e = one_byte sets xs (Code.Op op) n after refl e
 
 pub one_byte_operand : OneByteOperand
-one_byte_operand sets xs word n after e = one_byte sets xs (codes.Operand word) n after refl e
+one_byte_operand sets xs word n after e = one_byte sets xs (Code.Operand word) n after refl e

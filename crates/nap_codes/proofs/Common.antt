@@ -9,7 +9,7 @@ pub use Rattle.nap_codes.specs.Laws.{CodeByItsBytes, CodeLength, CodeRanges, Cod
 pub use Rattle.nap_codes.specs.LexResults.{LexResult, StepsGiveLexResult, StepsThrough, at_code, at_end, at_fault, at_more, lex_result_by}
 unfoldable pub use Rattle.nap_codes.specs.LexResults.{lex_result, lex_result_within}
 pub use Rattle.nap_codes.specs.Lexer.{IsCall, IsCharacter, IsOpcode, LexerState, Steps, StepsBy}
-pub use Rattle.nap_codes.specs.NextCodes.{IsNext, IsNextOf, next_of, sets_after}
+pub use Rattle.nap_codes.specs.NextCodes.{IsNext, IsNextAfterEscape, IsNextOf, next_of, next_of_code, sets_after}
 pub use Rattle.nap_codes.specs.Spelling.{IsProperPrefix, IsSpelling, Spells, SpellsRefused, accepted, left_out_control0, left_out_control1, left_out_of_pdi, refusal, shifted2, shifted3}
 unfoldable pub use Rattle.nap_codes.specs.Spelling.{bad_byte_fault, escape_fault, escaped_fault, place_fault}
 pub use Rattle.nap_codes.specs.SpellingLaws.{CodeIsSpelled, IsBadByte, RefusedIsSpelled, UnfinishedIsPrefix}

@@ -1,6 +1,4 @@
-use Rattle.nap_codes.proofs.Common.{Code, CodeFault, CodeSets, Front, HalfRead, IsGraphic, IsHalfRead, List, [], ap, argument_of, arith, complete, control0_front, control0_rows, control1_front, control1_rows, designation_front, escape_front, front, gl_front, half_read_bytes, le-leb, length, more_front, ne_eqb, non_pdi_code, one_byte_later, opcode_rows, pdi_front, position_front, refl, refused, rest_front, row_of, sequence_front, set_at, suc, unfinished, zero, ℕ, ◌++◌, ◌+◌, ◌∙◌, ◌∷◌, ◌≡◌, ◌≤◌}
-use Rattle.nap_codes.specs.declared.code_set.CodeSet.TheVariants as code_sets
-use Rattle.nap_codes.specs.declared.control.Argument.TheVariants as arguments
+use Rattle.nap_codes.proofs.Common.{Argument, Code, CodeFault, CodeSet, CodeSets, Front, HalfRead, IsGraphic, IsHalfRead, List, [], ap, argument_of, arith, complete, control0_front, control0_rows, control1_front, control1_rows, designation_front, escape_front, front, gl_front, half_read_bytes, le-leb, length, more_front, ne_eqb, non_pdi_code, one_byte_later, opcode_rows, pdi_front, position_front, refl, refused, rest_front, row_of, sequence_front, set_at, suc, unfinished, zero, ℕ, ◌++◌, ◌+◌, ◌∙◌, ◌∷◌, ◌≡◌, ◌≤◌}
 use Rattle.nap_codes.specs.declared.lexer.HalfRead.TheVariants.{Control, Designation, SpacedDesignation, PositionRow}
 use Rattle.nap_codes.proofs.TableLemmas.{graphic_test, no_control0, no_control1}
 
@@ -38,11 +36,11 @@ designation_begins sets intermediate bytes range =
 pub front_of_half : (sets : CodeSets) (half : HalfRead) (bytes : List ℕ) → IsHalfRead half →
     front sets (half_read_bytes half ++ bytes) ≡ further (length (half_read_bytes half)) (rest_front sets half bytes)
 unfolding front row_of control0_rows control0_front more_front escape_front control1_rows control1_front argument_of designation_front position_front
-front_of_half sets (Control arguments.Macro) bytes is = refl
-front_of_half sets (Control arguments.ShownMacro) bytes is = refl
-front_of_half sets (Control arguments.Glyph) bytes is = refl
-front_of_half sets (Control arguments.Mask) bytes is = refl
-front_of_half sets (Control arguments.Count) bytes is = refl
+front_of_half sets (Control Argument.Macro) bytes is = refl
+front_of_half sets (Control Argument.ShownMacro) bytes is = refl
+front_of_half sets (Control Argument.Glyph) bytes is = refl
+front_of_half sets (Control Argument.Mask) bytes is = refl
+front_of_half sets (Control Argument.Count) bytes is = refl
 front_of_half sets (Designation intermediate) bytes is = ap one_byte_later (designation_begins sets intermediate bytes is)
 front_of_half sets (SpacedDesignation intermediate) bytes is = ap one_byte_later (designation_begins sets intermediate (0x20 ∷ bytes) is)
 front_of_half sets (PositionRow row) bytes is = rw (graphic_test row is) refl
@@ -54,7 +52,7 @@ pub gl_begins : (sets : CodeSets) (byte : ℕ) → IsGraphic byte →
 unfolding front control0_front
 gl_begins sets byte range = rw (no_control0 byte range.0, graphic_test byte range) refl
 
-pub pdi_begins : (sets : CodeSets) (byte : ℕ) → IsGraphic byte → set_at sets sets.gl ≡ code_sets.Pdi →
+pub pdi_begins : (sets : CodeSets) (byte : ℕ) → IsGraphic byte → set_at sets sets.gl ≡ CodeSet.Pdi →
     front sets (byte ∷ []) ≡ pdi_front sets byte (row_of opcode_rows byte)
 unfolding gl_front non_pdi_code
 pdi_begins sets byte range pdi =

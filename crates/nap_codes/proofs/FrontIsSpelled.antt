@@ -1,9 +1,6 @@
 use Rattle.nap_codes.proofs.Common.{Argument, Bool, Code, CodeFault, CodeSet, CodeSets, Front, IsGraphic, IsProperPrefix, IsSpelling, Left, List, Mask, None, Opcode, Option, Row, Some, Spells, SpellsRefused, [], accepted, after_control0, ap, append-nil, append_assoc, argument_front, argument_of, arith, bad_byte, bad_byte_fault, column_front, complete, cond, control0_front, control0_rows, control1_front, control1_rows, control_of, designated_front, designation, designation_front, eqb, eqb-true, escape_fault, escape_front, escaped_fault, false, final_front, front, get_or, gl_front, inl, inr, is_graphic, last_byte, leb, left_out_opcode, ltb, mask_rows, more_front, nat_tests, non_pdi_code, number_rows, one_byte_later, opcode_front, opcode_rows, option_map, pdi_front, place_fault, position_front, refl, refusal, refused, row_of, sequence_front, set_at, set_rows, shifted_front, single_shift_front, subst, suc, take, true, unfinished, with_argument, with_set, ℕ, ◌&&◌, ◌++◌, ◌<◌, ◌∙◌, ◌∷◌, ◌≡◌, ◌≢◌, ◌≤◌, ◌⊎◌}
-use Rattle.nap_codes.specs.declared.code.Code.TheVariants as codes
 use Rattle.nap_codes.specs.declared.code.CodeFault.TheVariants.{BadEscape, ShiftAlone, ShiftedCode, BadArgument}
-use Rattle.nap_codes.specs.declared.code_set.CodeSet.TheVariants as code_sets
 use Rattle.nap_codes.specs.declared.code_set.GSet.TheVariants.{G0, G1}
-use Rattle.nap_codes.specs.declared.control.Argument.TheVariants as arguments
 use Rattle.nap_codes.specs.declared.control.Row.TheVariants.{Whole, More, Out}
 use Rattle.nap_codes.specs.declared.control.TextStep.TheVariants.{Aps}
 use Rattle.nap_codes.specs.Spelling as spelling
@@ -58,7 +55,7 @@ passed sets read fault byte bytes code false e spells = bad_byte-Answers sets re
 -- agreement after SS2 or SS3
 module _ (sets : CodeSets) (opening : ℕ) (set : CodeSet)
     (spells : (byte : ℕ) (code : Code) → IsGraphic byte → non_pdi_code set byte ≡ Some code → Spells sets (opening ∷ byte ∷ []) code sets)
-    (refuses : (byte : ℕ) → IsGraphic byte → set ≡ code_sets.Pdi → SpellsRefused sets (opening ∷ byte ∷ []) ShiftedCode)
+    (refuses : (byte : ℕ) → IsGraphic byte → set ≡ CodeSet.Pdi → SpellsRefused sets (opening ∷ byte ∷ []) ShiftedCode)
     (place : place_fault (opening ∷ []) ≡ ShiftAlone) where
   some_shifted : (byte : ℕ) (found : Option Code) → IsGraphic byte → non_pdi_code set byte ≡ found → IsSpelling sets (opening ∷ byte ∷ [])
   some_shifted byte (Some code) range e = accepted (spells byte code range e)
@@ -83,7 +80,7 @@ column-Answers : (sets : CodeSets) (row : ℕ) (bytes : List ℕ) → IsGraphic 
 unfolding column_front place_fault
 column-Answers sets row [] range = unfinished_at 0x20 [] (accepted (spelling.position range space))
 column-Answers sets row (byte ∷ bytes) range =
-    passed sets (0x1C ∷ row ∷ []) BadArgument byte bytes (codes.Step (Aps row byte)) (is_graphic byte) refl
+    passed sets (0x1C ∷ row ∷ []) BadArgument byte bytes (Code.Step (Aps row byte)) (is_graphic byte) refl
     (λ e. spelling.position range (graphic_range byte e))
 
 position-Answers : (sets : CodeSets) (bytes : List ℕ) → Answers sets (0x1C ∷ []) bytes (position_front sets bytes)
@@ -96,7 +93,7 @@ position-Answers sets (byte ∷ bytes) =
 
 -- agreement at the argument of a control
 mask_found : (sets : CodeSets) (byte : ℕ) (bytes : List ℕ) (found : Option Mask) → row_of mask_rows byte ≡ found →
-    Answers sets (0x1B ∷ 0x44 ∷ []) (byte ∷ bytes) (last_byte sets BadArgument byte (option_map codes.DefMask found))
+    Answers sets (0x1B ∷ 0x44 ∷ []) (byte ∷ bytes) (last_byte sets BadArgument byte (option_map Code.DefMask found))
 unfolding last_byte place_fault escaped_fault escape_fault row_of control1_rows
 mask_found sets byte bytes (Some mask) e = complete_at (spelling.def_texture e)
 mask_found sets byte bytes None e = bad_byte-Answers sets (0x1B ∷ 0x44 ∷ []) BadArgument byte bytes refl
@@ -107,26 +104,26 @@ count_range byte e = grind (arith, nat_tests)
 argument-Answers : (sets : CodeSets) (argument : Argument) (bytes : List ℕ) →
     Answers sets (0x1B ∷ control_of argument ∷ []) bytes (argument_front sets argument bytes)
 unfolding argument_front with_argument place_fault escaped_fault escape_fault row_of control1_rows mask_rows
-argument-Answers sets arguments.Macro [] = unfinished_at 0x20 [] (accepted (spelling.def_macro space))
-argument-Answers sets arguments.Macro (byte ∷ bytes) =
+argument-Answers sets Argument.Macro [] = unfinished_at 0x20 [] (accepted (spelling.def_macro space))
+argument-Answers sets Argument.Macro (byte ∷ bytes) =
     passed sets _ BadArgument byte bytes _ (is_graphic byte) refl (λ e. spelling.def_macro (graphic_range byte e))
-argument-Answers sets arguments.ShownMacro [] = unfinished_at 0x20 [] (accepted (spelling.defp_macro space))
-argument-Answers sets arguments.ShownMacro (byte ∷ bytes) =
+argument-Answers sets Argument.ShownMacro [] = unfinished_at 0x20 [] (accepted (spelling.defp_macro space))
+argument-Answers sets Argument.ShownMacro (byte ∷ bytes) =
     passed sets _ BadArgument byte bytes _ (is_graphic byte) refl (λ e. spelling.defp_macro (graphic_range byte e))
-argument-Answers sets arguments.Glyph [] = unfinished_at 0x20 [] (accepted (spelling.def_drcs space))
-argument-Answers sets arguments.Glyph (byte ∷ bytes) =
+argument-Answers sets Argument.Glyph [] = unfinished_at 0x20 [] (accepted (spelling.def_drcs space))
+argument-Answers sets Argument.Glyph (byte ∷ bytes) =
     passed sets _ BadArgument byte bytes _ (is_graphic byte) refl (λ e. spelling.def_drcs (graphic_range byte e))
-argument-Answers sets arguments.Mask [] = unfinished_at 0x41 [] (accepted (spelling.def_texture refl))
-argument-Answers sets arguments.Mask (byte ∷ bytes) = mask_found sets byte bytes _ refl
-argument-Answers sets arguments.Count [] = unfinished_at 0x40 [] (accepted (spelling.repeat (omega arith) (omega arith)))
-argument-Answers sets arguments.Count (byte ∷ bytes) =
+argument-Answers sets Argument.Mask [] = unfinished_at 0x41 [] (accepted (spelling.def_texture refl))
+argument-Answers sets Argument.Mask (byte ∷ bytes) = mask_found sets byte bytes _ refl
+argument-Answers sets Argument.Count [] = unfinished_at 0x40 [] (accepted (spelling.repeat (omega arith) (omega arith)))
+argument-Answers sets Argument.Count (byte ∷ bytes) =
     passed sets _ BadArgument byte bytes _ (leb 0x40 byte && ltb byte 0x80) refl
     (λ e. let range = count_range byte e in spelling.repeat range.0 range.1)
 
 designated_found : (sets : CodeSets) (read : List ℕ) (intermediate byte : ℕ) (bytes : List ℕ) (found : Option (ℕ × CodeSet)) →
     place_fault read ≡ BadEscape →
     ((number : ℕ) (set : CodeSet) → row_of number_rows intermediate ≡ Some number → row_of set_rows byte ≡ Some set →
-    Spells sets (read ++ byte ∷ []) (codes.Designated number set) (with_set sets number set)) →
+    Spells sets (read ++ byte ∷ []) (Code.Designated number set) (with_set sets number set)) →
     designation intermediate byte ≡ found → Answers sets read (byte ∷ bytes) (designated_front sets byte found)
 unfolding designated_front designation
 designated_found sets read intermediate byte bytes (Some named) place spells e =
@@ -149,7 +146,7 @@ no_control_place : (intermediate : ℕ) (bytes : List ℕ) → intermediate ≤ 
 unfolding place_fault escaped_fault escape_fault
 no_control_place intermediate bytes to = rw (no_control1 intermediate (omega arith)) refl
 
-primary_row : row_of set_rows 0x42 ≡ Some code_sets.Primary
+primary_row : row_of set_rows 0x42 ≡ Some CodeSet.Primary
 unfolding row_of set_rows
 primary_row = refl
 
@@ -217,13 +214,13 @@ more-Answers sets _ bytes shift3 =
     single_shift-Answers sets 0x1D sets.g3 (λ byte code range e. spelling.single_shift3 range e) (λ byte range e. spelling.shifted3 range e) refl bytes
 
 -- agreement at a code of the set in GL
-left_out_found : (sets : CodeSets) (byte : ℕ) (bytes : List ℕ) (op : Opcode) (found : Option Left) → set_at sets sets.gl ≡ code_sets.Pdi →
+left_out_found : (sets : CodeSets) (byte : ℕ) (bytes : List ℕ) (op : Opcode) (found : Option Left) → set_at sets sets.gl ≡ CodeSet.Pdi →
     row_of opcode_rows byte ≡ Some op → left_out_opcode op ≡ found → Answers sets [] (byte ∷ bytes) (opcode_front sets op found)
 unfolding opcode_front
 left_out_found sets byte bytes op None pdi row e = complete_at (spelling.opcode pdi row e)
 left_out_found sets byte bytes op (Some name) pdi row e = refused_at (spelling.left_out_of_pdi pdi row e)
 
-pdi_found : (sets : CodeSets) (byte : ℕ) (bytes : List ℕ) (found : Option Opcode) → set_at sets sets.gl ≡ code_sets.Pdi → IsGraphic byte →
+pdi_found : (sets : CodeSets) (byte : ℕ) (bytes : List ℕ) (found : Option Opcode) → set_at sets sets.gl ≡ CodeSet.Pdi → IsGraphic byte →
     row_of opcode_rows byte ≡ found → Answers sets [] (byte ∷ bytes) (pdi_front sets byte found)
 unfolding pdi_front
 pdi_found sets byte bytes (Some op) pdi range e = left_out_found sets byte bytes op (left_out_opcode op) pdi e refl
@@ -264,11 +261,11 @@ control0-Answers sets byte bytes None e =
     Answers-cond (is_graphic byte) (λ g. gl_found sets byte bytes _ (graphic_range byte g) refl)
     (λ g. stray_at (rw (eighth_bit byte (control0_missing byte e) g) refl))
 
-bell_row : row_of control0_rows 0x07 ≡ Some (Whole codes.Bell)
+bell_row : row_of control0_rows 0x07 ≡ Some (Whole Code.Bell)
 unfolding row_of control0_rows
 bell_row = refl
 
-bell_is_no_shift : codes.Bell ≢ codes.Shifted
+bell_is_no_shift : Code.Bell ≢ Code.Shifted
 bell_is_no_shift e = cc
 
 -- The front of a list agrees with the spellings.

@@ -1,8 +1,6 @@
 use Rattle.nap_codes.proofs.Common.{Argument, ByteOutcome, CodeSets, Front, HalfRead, IsHalfRead, IsLastOutcome, IsOutcomeBy, IsOutcomeOf, LexerState, None, Some, Step, Steps, StepsBy, [], ap, append-nil, argument_front, argument_of, arith, column_front, complete, control0_front, control0_rows, control1_front, control1_rows, control_of, designation_front, escape_front, final_front, front, gl_front, half_read_after, half_read_bytes, length, length-append, more_front, ne_eqb, non_pdi_code, one_byte_later, position_front, refl, refused, rest_front, row_of, set_at, single_shift_front, subst, sym, unfinished, ℕ, ◌<◌, ◌∙◌, ◌∷◌, ◌≡◌, ◌≢◌, ◌≤◌}
-use Rattle.nap_codes.specs.declared.code.Step.TheVariants as steps
 use Rattle.nap_codes.specs.declared.control.Row.TheVariants.{More}
 use Rattle.nap_codes.specs.declared.lexer.HalfRead.TheVariants.{Nothing, Escape, Control, Designation}
-use Rattle.nap_codes.specs.declared.lexer.ByteOutcome.TheVariants as turns
 use Rattle.nap_codes.proofs.TableLemmas.{graphic_test, IsLongControl, long_control, shift2, escape, position, shift3, control_of-argument_of}
 use Rattle.nap_codes.proofs.FrontBegins.{further, further-unfinished, further-complete, further-refused, front_of_half}
 
@@ -14,7 +12,7 @@ IsLastOutcome-IsOutcomeBy unfinished half byte turn e = absurd e
 IsLastOutcome-IsOutcomeBy _ half byte turn e = e
 
 first_led : (sets : CodeSets) (byte : ℕ) (more : HalfRead) → IsLongControl byte → more ≡ half_read_after byte →
-    IsOutcomeBy (one_byte_later (more_front sets byte [])) Nothing byte (turns.More more)
+    IsOutcomeBy (one_byte_later (more_front sets byte [])) Nothing byte (ByteOutcome.More more)
 unfolding one_byte_later more_front escape_front position_front single_shift_front half_read_after
 first_led sets _ more shift2 is = (more, refl, ap half_read_bytes is, subst IsHalfRead (sym is) tt)
 first_led sets _ more escape is = (more, refl, ap half_read_bytes is, subst IsHalfRead (sym is) tt)
@@ -22,7 +20,7 @@ first_led sets _ more position is = (more, refl, ap half_read_bytes is, subst Is
 first_led sets _ more shift3 is = (more, refl, ap half_read_bytes is, subst IsHalfRead (sym is) tt)
 
 pub first_more : (sets : CodeSets) (byte : ℕ) (more : HalfRead) → row_of control0_rows byte ≡ Some More → more ≡ half_read_after byte →
-    IsOutcomeOf sets Nothing byte (turns.More more)
+    IsOutcomeOf sets Nothing byte (ByteOutcome.More more)
 unfolding front control0_front
 first_more sets byte more e is = rw e (first_led sets byte more (long_control byte e) is)
 
@@ -33,7 +31,7 @@ first_graphic sets byte turn e least most ends =
     rw (e, graphic_test byte (least, most)) (IsLastOutcome-IsOutcomeBy _ Nothing byte turn ends)
 
 pub escaped_more : (sets : CodeSets) (byte : ℕ) (argument : Argument) → row_of control1_rows byte ≡ Some More →
-    argument ≡ argument_of byte → IsOutcomeOf sets Escape byte (turns.More (Control argument))
+    argument ≡ argument_of byte → IsOutcomeOf sets Escape byte (ByteOutcome.More (Control argument))
 unfolding escape_front control1_front argument_front one_byte_later
 escaped_more sets byte argument e is =
     rw e (Control argument, refl, ap (λ k. 0x1B ∷ k ∷ []) (ap control_of is ∙ control_of-argument_of byte e), tt)
@@ -57,15 +55,15 @@ half_unfinished sets half is =
 
 -- the step that a byte's outcome gives
 abbrev pub step_of : ByteOutcome → Step
-step_of (turns.More half) = steps.More
-step_of (turns.Code code after) = steps.Code code
-step_of (turns.Fault fault) = steps.Fault fault
+step_of (ByteOutcome.More half) = Step.More
+step_of (ByteOutcome.Code code after) = Step.Code code
+step_of (ByteOutcome.Fault fault) = Step.Fault fault
 
 -- the lexer after a byte's outcome
 abbrev pub after_turn : CodeSets → HalfRead → ByteOutcome → LexerState
-after_turn sets half (turns.More more) = record { sets = sets; half = half_read_bytes more }
-after_turn sets half (turns.Code code after) = record { sets = after; half = [] }
-after_turn sets half (turns.Fault fault) = record { sets = sets; half = half_read_bytes half }
+after_turn sets half (ByteOutcome.More more) = record { sets = sets; half = half_read_bytes more }
+after_turn sets half (ByteOutcome.Code code after) = record { sets = after; half = [] }
+after_turn sets half (ByteOutcome.Fault fault) = record { sets = sets; half = half_read_bytes half }
 
 at_rest_front : (sets : CodeSets) (half : HalfRead) (byte : ℕ) (turn : ByteOutcome) (r : Front) → IsOutcomeBy r half byte turn →
     StepsBy (further (length (half_read_bytes half)) r) (record { sets = sets; half = half_read_bytes half }) byte (step_of turn) (after_turn sets half turn)
@@ -82,10 +80,10 @@ pub turn-Steps : (sets : CodeSets) (half : HalfRead) (byte : ℕ) (turn : ByteOu
 turn-Steps sets half byte turn is e =
     rw (front_of_half sets half (byte ∷ []) is) (at_rest_front sets half byte turn (rest_front sets half (byte ∷ [])) e)
 
-more_at : (half : HalfRead) (byte : ℕ) (more : HalfRead) (r : Front) → IsOutcomeBy r half byte (turns.More more) → IsHalfRead more
+more_at : (half : HalfRead) (byte : ℕ) (more : HalfRead) (r : Front) → IsOutcomeBy r half byte (ByteOutcome.More more) → IsHalfRead more
 more_at half byte more unfinished e = let same : e.0 ≡ more = cc in subst IsHalfRead same e.3
 more_at half byte more _ e = cc
 
 -- A code that is incomplete after a byte has its parameters in range.
-pub turn_more-IsHalfRead : (sets : CodeSets) (half : HalfRead) (byte : ℕ) (more : HalfRead) → IsOutcomeOf sets half byte (turns.More more) → IsHalfRead more
+pub turn_more-IsHalfRead : (sets : CodeSets) (half : HalfRead) (byte : ℕ) (more : HalfRead) → IsOutcomeOf sets half byte (ByteOutcome.More more) → IsHalfRead more
 turn_more-IsHalfRead sets half byte more e = more_at half byte more (rest_front sets half (byte ∷ [])) e

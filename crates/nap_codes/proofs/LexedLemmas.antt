@@ -1,5 +1,4 @@
-use Rattle.nap_codes.proofs.Common.{Code, CodeFault, CodeSets, Front, LexResult, LexerState, List, Option, Some, StepsBy, StepsGiveLexResult, StepsThrough, [], ap, append-nil, append_assoc, arith, at_code, at_end, at_fault, at_more, complete, drop, drop-append_seam, front, length, length-drop, lex_result, lex_result_by, lex_result_within, refl, refused, subst, suc, sym, take-append_seam, unfinished, zero, ℕ, ◌++◌, ◌<◌, ◌∙◌, ◌∷◌, ◌≡◌}
-use Rattle.nap_codes.specs.declared.code.Step.TheVariants as steps
+use Rattle.nap_codes.proofs.Common.{Code, CodeFault, CodeSets, Front, LexResult, LexerState, List, Option, Some, Step, StepsBy, StepsGiveLexResult, StepsThrough, [], ap, append-nil, append_assoc, arith, at_code, at_end, at_fault, at_more, complete, drop, drop-append_seam, front, length, length-drop, lex_result, lex_result_by, lex_result_within, refl, refused, subst, suc, sym, take-append_seam, unfinished, zero, ℕ, ◌++◌, ◌<◌, ◌∙◌, ◌∷◌, ◌≡◌}
 use Rattle.nap_codes.proofs.FrontLaws.{code_stays, refused_stays, code_length}
 
 -- The steps of a lexer give the codes of a list.
@@ -43,12 +42,12 @@ lex_result-front sets bytes = at (front sets bytes) refl
 
 -- the front that a step tells
 module _ (old new : LexerState) (byte : ℕ) where
-  on_more : (r : Front) → StepsBy r old byte steps.More new →
+  on_more : (r : Front) → StepsBy r old byte Step.More new →
       (r ≡ unfinished) × (new ≡ record { sets = old.sets; half = old.half ++ byte ∷ [] })
   on_more unfinished e = (refl, e.1)
   on_more _ e = cc
 
-  on_code : (r : Front) (code : Code) → StepsBy r old byte (steps.Code code) new →
+  on_code : (r : Front) (code : Code) → StepsBy r old byte (Step.Code code) new →
       (r ≡ complete code (length (old.half ++ byte ∷ [])) new.sets) × (new.half ≡ [])
   on_code (complete c n after) code e =
       let same : c ≡ code = cc in
@@ -56,7 +55,7 @@ module _ (old new : LexerState) (byte : ℕ) where
       (rw (same, e.1, sets) refl, ap (λ s. s.half) e.2)
   on_code _ code e = cc
 
-  on_fault : (r : Front) (fault : CodeFault) → StepsBy r old byte (steps.Fault fault) new →
+  on_fault : (r : Front) (fault : CodeFault) → StepsBy r old byte (Step.Fault fault) new →
       (r ≡ refused fault (length old.half)) × (new ≡ old)
   on_fault (refused f i) fault e =
       let same : f ≡ fault = cc in

@@ -1,5 +1,4 @@
-use Rattle.nap_codes.proofs.Common.{IsOpcode, LexerState, None, Some, [], ap, arith, complete, front, opcode_front, pdi_front, ℕ, ◌<◌, ◌↔◌, ◌∙◌, ◌∷◌, ◌≡◌, ◌≤◌}
-use Rattle.nap_codes.specs.declared.code.Code.TheVariants as codes
+use Rattle.nap_codes.proofs.Common.{Code, IsOpcode, LexerState, None, Some, [], ap, arith, complete, front, opcode_front, pdi_front, ℕ, ◌<◌, ◌↔◌, ◌∙◌, ◌∷◌, ◌≡◌, ◌≤◌}
 use Rattle.nap_codes.specs.declared.opcode.Opcode.{Opcode}
 use Rattle.nap_codes.proofs.FrontBegins.{pdi_begins}
 use Rattle.nap_codes.proofs.TableLemmas.{no_opcode, opcode_range}
@@ -7,7 +6,7 @@ use Rattle.nap_codes.proofs.TableLemmas.{no_opcode, opcode_range}
 -- Which bytes are complete codes of an opcode.
 
 -- a byte that is an opcode is at the front as that opcode
-pub opcode_alone : (lexer : LexerState) (byte : ℕ) (op : Opcode) → IsOpcode lexer byte op → front lexer.sets (byte ∷ []) ≡ complete (codes.Op op) 1 lexer.sets
+pub opcode_alone : (lexer : LexerState) (byte : ℕ) (op : Opcode) → IsOpcode lexer byte op → front lexer.sets (byte ∷ []) ≡ complete (Code.Op op) 1 lexer.sets
 unfolding pdi_front opcode_front
 opcode_alone lexer byte op is =
     pdi_begins lexer.sets byte (opcode_range byte op is.2) is.1

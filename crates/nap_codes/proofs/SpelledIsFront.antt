@@ -1,5 +1,4 @@
-use Rattle.nap_codes.proofs.Common.{Code, CodeFault, CodeSets, List, None, Spells, SpellsRefused, [], after_control0, ap, argument_front, arith, column_front, complete, control0_front, control1_front, control1_rows, designated_front, designation, designation_front, escape_front, final_front, front, gl_front, last_byte, le-leb, length, lt-ltb, ne_eqb, non_pdi_code, one_byte_later, opcode_front, pdi_front, refl, refused, row_of, sequence_front, shifted_front, single_shift_front, suc, with_argument, ℕ, ◌∷◌, ◌≡◌}
-use Rattle.nap_codes.specs.declared.control.Argument.TheVariants as arguments
+use Rattle.nap_codes.proofs.Common.{Argument, Code, CodeFault, CodeSets, List, None, Spells, SpellsRefused, [], after_control0, ap, argument_front, arith, column_front, complete, control0_front, control1_front, control1_rows, designated_front, designation, designation_front, escape_front, final_front, front, gl_front, last_byte, le-leb, length, lt-ltb, ne_eqb, non_pdi_code, one_byte_later, opcode_front, pdi_front, refl, refused, row_of, sequence_front, shifted_front, single_shift_front, suc, with_argument, ℕ, ◌∷◌, ◌≡◌}
 use Rattle.nap_codes.specs.declared.lexer.HalfRead.TheVariants.{Escape, Control, Designation, SpacedDesignation, SingleShift2, SingleShift3, PositionRow}
 use Rattle.nap_codes.specs.Spelling as spelling
 use Rattle.nap_codes.proofs.TableLemmas.{graphic_test, no_opcode, opcode_range, intermediate_range, no_space, shift_out_row, shift_in_row}
@@ -25,15 +24,15 @@ spelled sets _ _ _ (spelling.position {row = row} {column = column} r c) =
     rw (front_of_half sets (PositionRow row) (column ∷ []) r, graphic_test column c) refl
 spelled sets _ _ _ (spelling.control1 {byte = byte} row) = rw (front_of_half sets Escape (byte ∷ []) tt, row) refl
 spelled sets _ _ _ (spelling.def_macro {name = name} range) =
-    rw (front_of_half sets (Control arguments.Macro) (name ∷ []) tt, graphic_test name range) refl
+    rw (front_of_half sets (Control Argument.Macro) (name ∷ []) tt, graphic_test name range) refl
 spelled sets _ _ _ (spelling.defp_macro {name = name} range) =
-    rw (front_of_half sets (Control arguments.ShownMacro) (name ∷ []) tt, graphic_test name range) refl
+    rw (front_of_half sets (Control Argument.ShownMacro) (name ∷ []) tt, graphic_test name range) refl
 spelled sets _ _ _ (spelling.def_drcs {byte = byte} range) =
-    rw (front_of_half sets (Control arguments.Glyph) (byte ∷ []) tt, graphic_test byte range) refl
+    rw (front_of_half sets (Control Argument.Glyph) (byte ∷ []) tt, graphic_test byte range) refl
 spelled sets _ _ _ (spelling.def_texture {byte = byte} row) =
-    rw (front_of_half sets (Control arguments.Mask) (byte ∷ []) tt, row) refl
+    rw (front_of_half sets (Control Argument.Mask) (byte ∷ []) tt, row) refl
 spelled sets _ _ _ (spelling.repeat {byte = byte} least below) =
-    rw (front_of_half sets (Control arguments.Count) (byte ∷ []) tt, le-leb 0x40 byte least, lt-ltb byte 0x80 below) refl
+    rw (front_of_half sets (Control Argument.Count) (byte ∷ []) tt, le-leb 0x40 byte least, lt-ltb byte 0x80 below) refl
 spelled sets _ _ _ (spelling.designation {intermediate = intermediate} {final = final} {number = number} {set = set} n s) =
     rw (front_of_half sets (Designation intermediate) (final ∷ []) (intermediate_range intermediate number n), ne_eqb final 0x20 (no_space final set s), n, s)
     refl

@@ -1,6 +1,4 @@
-use Rattle.nap_codes.proofs.Common.{CodeSet, FormatEffector, IsGraphic, None, Opcode, Option, Row, Some, TextStep, ap, argument_of, arith, backward, control0_rows, control1_rows, control_of, down, eqb, forward, home, is_graphic, le-leb, lt-ltb, nat_tests, non_pdi_code, number_rows, opcode_rows, option_pair, refl, return, row_of, set_rows, true, up, ℕ, ◌<◌, ◌||◌, ◌≡◌, ◌≢◌, ◌≤◌}
-use Rattle.nap_codes.specs.declared.code.Code.TheVariants as codes
-use Rattle.nap_codes.specs.declared.code_set.CodeSet.TheVariants as code_sets
+use Rattle.nap_codes.proofs.Common.{Code, CodeSet, FormatEffector, IsGraphic, None, Opcode, Option, Row, Some, TextStep, ap, argument_of, arith, backward, control0_rows, control1_rows, control_of, down, eqb, forward, home, is_graphic, le-leb, lt-ltb, nat_tests, non_pdi_code, number_rows, opcode_rows, option_pair, refl, return, row_of, set_rows, true, up, ℕ, ◌<◌, ◌||◌, ◌≡◌, ◌≢◌, ◌≤◌}
 use Rattle.nap_codes.specs.declared.control.Row.TheVariants.{Whole, More}
 use Rattle.nap_codes.proofs.RowLemmas.{row_found, no_row, row_missing}
 
@@ -77,27 +75,27 @@ long_control byte e = row_found LongRow control0_rows byte More (assumption (shi
 
 -- the format effectors of the C0 set without further bytes
 abbrev MovesAlone : ℕ → Row → Type 0
-MovesAlone byte (Whole (codes.Step step)) = FormatEffector byte step
+MovesAlone byte (Whole (Code.Step step)) = FormatEffector byte step
 MovesAlone byte _ = Unit {0}
 
-pub effector_known : (byte : ℕ) (step : TextStep) → row_of control0_rows byte ≡ Some (Whole (codes.Step step)) → FormatEffector byte step
+pub effector_known : (byte : ℕ) (step : TextStep) → row_of control0_rows byte ≡ Some (Whole (Code.Step step)) → FormatEffector byte step
 unfolding control0_rows
-effector_known byte step e = row_found MovesAlone control0_rows byte (Whole (codes.Step step)) (assumption (backward, forward, down, up, return, home)) e
+effector_known byte step e = row_found MovesAlone control0_rows byte (Whole (Code.Step step)) (assumption (backward, forward, down, up, return, home)) e
 
 -- the locking shifts of the C0 set: SO and SI
 abbrev ShiftsAlone : ℕ → Row → Type 0
-ShiftsAlone byte (Whole codes.Shifted) = eqb byte 0x0E || eqb byte 0x0F ≡ true
+ShiftsAlone byte (Whole Code.Shifted) = eqb byte 0x0E || eqb byte 0x0F ≡ true
 ShiftsAlone byte _ = Unit {0}
 
-pub shifts_alone : (byte : ℕ) → row_of control0_rows byte ≡ Some (Whole codes.Shifted) → eqb byte 0x0E || eqb byte 0x0F ≡ true
+pub shifts_alone : (byte : ℕ) → row_of control0_rows byte ≡ Some (Whole Code.Shifted) → eqb byte 0x0E || eqb byte 0x0F ≡ true
 unfolding control0_rows
-shifts_alone byte e = row_found ShiftsAlone control0_rows byte (Whole codes.Shifted) (assumption) e
+shifts_alone byte e = row_found ShiftsAlone control0_rows byte (Whole Code.Shifted) (assumption) e
 
-pub shift_out_row : row_of control0_rows 0x0E ≡ Some (Whole codes.Shifted)
+pub shift_out_row : row_of control0_rows 0x0E ≡ Some (Whole Code.Shifted)
 unfolding row_of control0_rows
 shift_out_row = refl
 
-pub shift_in_row : row_of control0_rows 0x0F ≡ Some (Whole codes.Shifted)
+pub shift_in_row : row_of control0_rows 0x0F ≡ Some (Whole Code.Shifted)
 unfolding row_of control0_rows
 shift_in_row = refl
 
@@ -111,7 +109,7 @@ unfolding control1_rows argument_of
 control_of-argument_of byte e = row_found HasArgument control1_rows byte More (assumption) e
 
 -- Only the PDI set has neither characters nor macro calls.
-pub no_plain_code : (set : CodeSet) (byte : ℕ) → non_pdi_code set byte ≡ None → set ≡ code_sets.Pdi
+pub no_plain_code : (set : CodeSet) (byte : ℕ) → non_pdi_code set byte ≡ None → set ≡ CodeSet.Pdi
 unfolding non_pdi_code
 no_plain_code set byte e = grind arith
 

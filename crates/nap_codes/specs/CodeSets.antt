@@ -1,6 +1,5 @@
 use Rattle.std.specs.Prelude.{ℕ, ◌==◌, if◌then◌else◌, Option, Some, None}
 use Rattle.nap_codes.specs.Types.{CharSet, CodeSet, CodeSets, GSet}
-use Rattle.nap_codes.specs.declared.code_set.CharSet.TheVariants as chars
 use Rattle.nap_codes.specs.declared.code_set.CodeSet.TheVariants.{Primary, Supplementary, Pdi, Mosaic, Macros, Drcs}
 use Rattle.nap_codes.specs.declared.code_set.GSet.TheVariants.{G0, G1, G2, G3}
 
@@ -10,10 +9,10 @@ start_sets = record { g0 = Primary; g1 = Pdi; g2 = Supplementary; g3 = Mosaic; g
 
 -- the character set, or none for the PDI set and the macro set
 abbrev pub char_set_of : CodeSet → Option CharSet
-char_set_of Primary = Some chars.Primary
-char_set_of Supplementary = Some chars.Supplementary
-char_set_of Mosaic = Some chars.Mosaic
-char_set_of Drcs = Some chars.Drcs
+char_set_of Primary = Some CharSet.Primary
+char_set_of Supplementary = Some CharSet.Supplementary
+char_set_of Mosaic = Some CharSet.Mosaic
+char_set_of Drcs = Some CharSet.Drcs
 char_set_of Macros = None
 char_set_of Pdi = None
 

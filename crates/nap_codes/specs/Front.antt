@@ -3,10 +3,8 @@ use Rattle.std.specs.Option.{option_map}
 use Rattle.nap_codes.specs.Types.{Argument, Code, CodeFault, CodeSet, CodeSets, Left, Opcode, Row}
 use Rattle.nap_codes.specs.declared.code.Code.TheVariants.{Step, Shifted, Designated, Char, Call, Op, Operand, DefMacro, DefGlyph, DefMask, Repeat}
 use Rattle.nap_codes.specs.declared.code.CodeFault.TheVariants.{EighthBit, BadEscape, ShiftAlone, ShiftedCode, BadArgument, LeftOut}
-use Rattle.nap_codes.specs.declared.code_set.CharSet.TheVariants as chars
-use Rattle.nap_codes.specs.declared.code_set.CodeSet.TheVariants as code_sets
+use Rattle.nap_codes.specs.declared.code_set.CharSet.{CharSet}
 use Rattle.nap_codes.specs.declared.code_set.GSet.TheVariants.{G2, G3}
-use Rattle.nap_codes.specs.declared.control.Argument.TheVariants as arguments
 use Rattle.nap_codes.specs.declared.control.Row.TheVariants.{Whole, More, Out}
 use Rattle.nap_codes.specs.declared.control.TextStep.TheVariants.{Aps}
 use Rattle.nap_codes.specs.CodeSets.{set_at, with_set, after_control0}
@@ -44,12 +42,12 @@ last_byte sets fault byte None = bad_byte fault byte
 
 -- the character or macro call that a byte is in this set, or none for the PDI set
 unfoldable pub non_pdi_code : CodeSet → ℕ → Option Code
-non_pdi_code code_sets.Primary byte = Some (Char chars.Primary byte)
-non_pdi_code code_sets.Supplementary byte = Some (Char chars.Supplementary byte)
-non_pdi_code code_sets.Mosaic byte = Some (Char chars.Mosaic byte)
-non_pdi_code code_sets.Drcs byte = Some (Char chars.Drcs byte)
-non_pdi_code code_sets.Macros byte = Some (Call byte)
-non_pdi_code code_sets.Pdi byte = None
+non_pdi_code CodeSet.Primary byte = Some (Char CharSet.Primary byte)
+non_pdi_code CodeSet.Supplementary byte = Some (Char CharSet.Supplementary byte)
+non_pdi_code CodeSet.Mosaic byte = Some (Char CharSet.Mosaic byte)
+non_pdi_code CodeSet.Drcs byte = Some (Char CharSet.Drcs byte)
+non_pdi_code CodeSet.Macros byte = Some (Call byte)
+non_pdi_code CodeSet.Pdi byte = None
 
 -- the front at an opcode, which may be left out
 unfoldable pub opcode_front : CodeSets → Opcode → Option Left → Front
@@ -92,19 +90,19 @@ position_front sets (byte ∷ bytes) =
 -- the meaning of the argument of a control of the C1 set that takes one
 unfoldable pub argument_of : ℕ → Argument
 argument_of byte =
-    if byte == 0x40 then arguments.Macro
-    else if byte == 0x41 then arguments.ShownMacro
-    else if byte == 0x43 then arguments.Glyph
-    else if byte == 0x44 then arguments.Mask
-    else arguments.Count
+    if byte == 0x40 then Argument.Macro
+    else if byte == 0x41 then Argument.ShownMacro
+    else if byte == 0x43 then Argument.Glyph
+    else if byte == 0x44 then Argument.Mask
+    else Argument.Count
 
 -- the code of a control with this argument byte, or none outside its range
 unfoldable pub with_argument : Argument → ℕ → Option Code
-with_argument arguments.Macro byte = if is_graphic byte then Some (DefMacro byte false) else None
-with_argument arguments.ShownMacro byte = if is_graphic byte then Some (DefMacro byte true) else None
-with_argument arguments.Glyph byte = if is_graphic byte then Some (DefGlyph byte) else None
-with_argument arguments.Mask byte = option_map DefMask (row_of mask_rows byte)
-with_argument arguments.Count byte =
+with_argument Argument.Macro byte = if is_graphic byte then Some (DefMacro byte false) else None
+with_argument Argument.ShownMacro byte = if is_graphic byte then Some (DefMacro byte true) else None
+with_argument Argument.Glyph byte = if is_graphic byte then Some (DefGlyph byte) else None
+with_argument Argument.Mask byte = option_map DefMask (row_of mask_rows byte)
+with_argument Argument.Count byte =
     if nat_le 0x40 byte && nat_lt byte 0x80 then Some (Repeat (byte - 0x40)) else None
 
 -- the front at the argument of a control

@@ -1,18 +1,16 @@
 use Rattle.std.specs.Prelude.{ℕ, ◌==◌, if◌then◌else◌, ◌≡◌, ◌≤◌, List, [], ◌∷◌, ◌++◌}
 use Rattle.nap_codes.specs.Types.{Argument, ByteOutcome, CodeSets, HalfRead}
-use Rattle.nap_codes.specs.declared.control.Argument.TheVariants as arguments
 use Rattle.nap_codes.specs.declared.lexer.HalfRead.TheVariants.{Nothing, Escape, Control, Designation, SpacedDesignation, SingleShift2, SingleShift3, Position, PositionRow}
-use Rattle.nap_codes.specs.declared.lexer.ByteOutcome.TheVariants as turns
 use Rattle.nap_codes.specs.Front.{Front, unfinished, complete, refused, front, escape_front, argument_front, designation_front, final_front, single_shift_front, position_front, column_front}
 use Rattle.nap_codes.specs.Laws.{IsGraphic}
 
 -- the control of the C1 set that takes this argument
 abbrev pub control_of : Argument → ℕ
-control_of arguments.Macro = 0x40
-control_of arguments.ShownMacro = 0x41
-control_of arguments.Glyph = 0x43
-control_of arguments.Mask = 0x44
-control_of arguments.Count = 0x46
+control_of Argument.Macro = 0x40
+control_of Argument.ShownMacro = 0x41
+control_of Argument.Glyph = 0x43
+control_of Argument.Mask = 0x44
+control_of Argument.Count = 0x46
 
 -- the bytes read so far of an incomplete code
 abbrev pub half_read_bytes : HalfRead → List ℕ
@@ -56,13 +54,13 @@ rest_front sets (PositionRow row) bytes = column_front sets row bytes
 -- the outcome of a byte that completes a code or is refused
 abbrev pub IsLastOutcome : Front → ByteOutcome → Type 0
 IsLastOutcome unfinished turn = ⊥
-IsLastOutcome (complete code n after) turn = (n ≡ 1) × (turn ≡ turns.Code code after)
-IsLastOutcome (refused fault i) turn = (i ≡ 0) × (turn ≡ turns.Fault fault)
+IsLastOutcome (complete code n after) turn = (n ≡ 1) × (turn ≡ ByteOutcome.Code code after)
+IsLastOutcome (refused fault i) turn = (i ≡ 0) × (turn ≡ ByteOutcome.Fault fault)
 
 -- the outcome of a byte after an incomplete code, given the front of that byte
 abbrev pub IsOutcomeBy : Front → HalfRead → ℕ → ByteOutcome → Type 0
 IsOutcomeBy unfinished half byte turn =
-    (more : HalfRead) × (turn ≡ turns.More more) × (half_read_bytes more ≡ half_read_bytes half ++ byte ∷ []) × IsHalfRead more
+    (more : HalfRead) × (turn ≡ ByteOutcome.More more) × (half_read_bytes more ≡ half_read_bytes half ++ byte ∷ []) × IsHalfRead more
 IsOutcomeBy (complete code n after) half byte turn = IsLastOutcome (complete code n after) turn
 IsOutcomeBy (refused fault i) half byte turn = IsLastOutcome (refused fault i) turn
 

@@ -1,7 +1,5 @@
 use Rattle.std.specs.Prelude.{ℕ, suc, ◌≡◌, ◌<◌, ◌≤◌, List, [], ◌∷◌, ◌++◌, length, take, Some, None}
 use Rattle.nap_codes.specs.Types.{Code, CodeFault, CodeSets, Opcode, TextStep}
-use Rattle.nap_codes.specs.declared.code.Code.TheVariants as codes
-use Rattle.nap_codes.specs.declared.control.TextStep.TheVariants as steps
 use Rattle.nap_codes.specs.Tables.{left_out_opcode, format_effector}
 use Rattle.nap_codes.specs.Front.{unfinished, complete, refused, front}
 
@@ -51,15 +49,15 @@ IsGraphic byte = (0x20 ≤ byte) × (byte < 0x80)
 
 -- the parameters of a code are in range, and its opcode isn't one that is left out
 abbrev pub IsCodeInRange : Code → Type 0
-IsCodeInRange (codes.Step (steps.Aps row column)) = IsGraphic row × IsGraphic column
-IsCodeInRange (codes.Designated number set) = number < 4
-IsCodeInRange (codes.Char set byte) = IsGraphic byte
-IsCodeInRange (codes.Call byte) = IsGraphic byte
-IsCodeInRange (codes.Op op) = left_out_opcode op ≡ None
-IsCodeInRange (codes.Operand word) = word < 64
-IsCodeInRange (codes.DefMacro name show) = IsGraphic name
-IsCodeInRange (codes.DefGlyph byte) = IsGraphic byte
-IsCodeInRange (codes.Repeat count) = count < 64
+IsCodeInRange (Code.Step (TextStep.Aps row column)) = IsGraphic row × IsGraphic column
+IsCodeInRange (Code.Designated number set) = number < 4
+IsCodeInRange (Code.Char set byte) = IsGraphic byte
+IsCodeInRange (Code.Call byte) = IsGraphic byte
+IsCodeInRange (Code.Op op) = left_out_opcode op ≡ None
+IsCodeInRange (Code.Operand word) = word < 64
+IsCodeInRange (Code.DefMacro name show) = IsGraphic name
+IsCodeInRange (Code.DefGlyph byte) = IsGraphic byte
+IsCodeInRange (Code.Repeat count) = count < 64
 IsCodeInRange _ = Unit {0}
 
 -- The parameters of a code at the front are in range, and its opcode isn't one that is left out.
@@ -70,26 +68,26 @@ CodeRanges = (sets : CodeSets) (xs : List ℕ) (code : Code) (n : ℕ) (after : 
 -- An opcode has one byte, and changes no code set.
 abbrev pub OneByteOpcode : Type 0
 OneByteOpcode = (sets : CodeSets) (xs : List ℕ) (op : Opcode) (n : ℕ) (after : CodeSets) →
-    front sets xs ≡ complete (codes.Op op) n after → (n ≡ 1) × (after ≡ sets)
+    front sets xs ≡ complete (Code.Op op) n after → (n ≡ 1) × (after ≡ sets)
 
 -- An operand word has one byte, and changes no code set.
 abbrev pub OneByteOperand : Type 0
 OneByteOperand = (sets : CodeSets) (xs : List ℕ) (word : ℕ) (n : ℕ) (after : CodeSets) →
-    front sets xs ≡ complete (codes.Operand word) n after → (n ≡ 1) × (after ≡ sets)
+    front sets xs ≡ complete (Code.Operand word) n after → (n ≡ 1) × (after ≡ sets)
 
 -- A format effector of one byte is below 20, is a complete code, and changes no code set.
 abbrev pub FormatEffectorFront : Type 0
 FormatEffectorFront = (byte : ℕ) (step : TextStep) → format_effector byte ≡ Some step →
-    (byte < 0x20) × ((sets : CodeSets) → front sets (byte ∷ []) ≡ complete (codes.Step step) 1 sets)
+    (byte < 0x20) × ((sets : CodeSets) → front sets (byte ∷ []) ≡ complete (Code.Step step) 1 sets)
 
 -- the format effectors of one byte
 pub data FormatEffector : ℕ → TextStep → Type 0 where
-  backward : FormatEffector 0x08 steps.Apb
-  forward : FormatEffector 0x09 steps.Apf
-  down : FormatEffector 0x0A steps.Apd
-  up : FormatEffector 0x0B steps.Apu
-  return : FormatEffector 0x0D steps.Apr
-  home : FormatEffector 0x1E steps.Aph
+  backward : FormatEffector 0x08 TextStep.Apb
+  forward : FormatEffector 0x09 TextStep.Apf
+  down : FormatEffector 0x0A TextStep.Apd
+  up : FormatEffector 0x0B TextStep.Apu
+  return : FormatEffector 0x0D TextStep.Apr
+  home : FormatEffector 0x1E TextStep.Aph
 
 -- Every format effector but APS is one of the six of one byte.
 abbrev pub FormatEffectorKnown : Type 0

@@ -1,6 +1,6 @@
 use Rattle.std.specs.Prelude.{ℕ, zero, suc, ◌≡◌, List, [], ◌∷◌, length, take, drop, Option, Some, None}
 use Rattle.nap_codes.specs.Types.{Code, CodeFault, CodeSets}
-use Rattle.nap_codes.specs.declared.code.Step.TheVariants as steps
+use Rattle.nap_codes.specs.declared.code.Step.{Step}
 use Rattle.nap_codes.specs.Front.{Front, unfinished, complete, refused, front}
 use Rattle.nap_codes.specs.Lexer.{LexerState, Steps}
 
@@ -34,13 +34,13 @@ lex_result sets bytes = lex_result_within (suc (length bytes)) sets bytes
 pub data StepsThrough : LexerState → List ℕ → List Code → Option CodeFault → LexerState → Type 0 where
   at_end : {state : LexerState} → StepsThrough state [] [] None state
   at_more : {state next end : LexerState} {byte : ℕ} {bytes : List ℕ} {codes : List Code} {fault : Option CodeFault} →
-      Steps state byte steps.More next → StepsThrough next bytes codes fault end →
+      Steps state byte Step.More next → StepsThrough next bytes codes fault end →
       StepsThrough state (byte ∷ bytes) codes fault end
   at_code : {state next end : LexerState} {byte : ℕ} {bytes : List ℕ} {code : Code} {codes : List Code} {fault : Option CodeFault} →
-      Steps state byte (steps.Code code) next → StepsThrough next bytes codes fault end →
+      Steps state byte (Step.Code code) next → StepsThrough next bytes codes fault end →
       StepsThrough state (byte ∷ bytes) (code ∷ codes) fault end
   at_fault : {state end : LexerState} {byte : ℕ} {bytes : List ℕ} {fault : CodeFault} →
-      Steps state byte (steps.Fault fault) end → StepsThrough state (byte ∷ bytes) [] (Some fault) end
+      Steps state byte (Step.Fault fault) end → StepsThrough state (byte ∷ bytes) [] (Some fault) end
 
 -- From a lexer without an incomplete code, the calls of `step` return the codes of the list and its fault, and leave
 -- the bytes of its incomplete code.

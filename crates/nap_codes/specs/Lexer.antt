@@ -1,7 +1,6 @@
 use Rattle.std.specs.Prelude.{ℕ, ◌≡◌, ◌⊎◌, List, [], ◌∷◌, ◌++◌, length, Some, None}
-use Rattle.nap_codes.specs.declared.code.Code.TheVariants as codes
+use Rattle.nap_codes.specs.declared.code.Code.{Code}
 use Rattle.nap_codes.specs.Types.{CharSet, CodeSets, Opcode, Step, TextStep}
-use Rattle.nap_codes.specs.declared.code.Step.TheVariants as steps
 use Rattle.nap_codes.specs.declared.code_set.CodeSet.TheVariants.{Macros, Pdi}
 use Rattle.nap_codes.specs.declared.control.Row.TheVariants.{Whole}
 use Rattle.nap_codes.specs.CodeSets.{set_at}
@@ -17,11 +16,11 @@ pub record LexerState : Type 0 where
 -- the effect of a byte on a lexer, given the front of the incomplete code followed by the byte
 abbrev pub StepsBy : Front → LexerState → ℕ → Step → LexerState → Type 0
 StepsBy unfinished old byte step new =
-    (step ≡ steps.More) × (new ≡ record { sets = old.sets; half = old.half ++ byte ∷ [] })
+    (step ≡ Step.More) × (new ≡ record { sets = old.sets; half = old.half ++ byte ∷ [] })
 StepsBy (complete code n after) old byte step new =
-    (step ≡ steps.Code code) × (n ≡ length (old.half ++ byte ∷ [])) × (new ≡ record { sets = after; half = [] })
+    (step ≡ Step.Code code) × (n ≡ length (old.half ++ byte ∷ [])) × (new ≡ record { sets = after; half = [] })
 StepsBy (refused fault i) old byte step new =
-    (step ≡ steps.Fault fault) × (i ≡ length old.half) × (new ≡ old)
+    (step ≡ Step.Fault fault) × (i ≡ length old.half) × (new ≡ old)
 
 -- the effect of a byte on a lexer
 abbrev pub Steps : LexerState → ℕ → Step → LexerState → Type 0
@@ -30,7 +29,7 @@ Steps old byte step new = StepsBy (front old.sets (old.half ++ byte ∷ [])) old
 -- The byte is a character of this set in this state: no code is incomplete, the byte is a complete code, and it changes
 -- no code set.
 abbrev pub IsCharacter : LexerState → ℕ → CharSet → Type 0
-IsCharacter lexer byte set = (lexer.half ≡ []) × (front lexer.sets (byte ∷ []) ≡ complete (codes.Char set byte) 1 lexer.sets)
+IsCharacter lexer byte set = (lexer.half ≡ []) × (front lexer.sets (byte ∷ []) ≡ complete (Code.Char set byte) 1 lexer.sets)
 
 -- The byte is this opcode in this state: no code is incomplete, the PDI set is in GL, and the tables have the opcode
 -- and don't leave it out.
@@ -45,7 +44,7 @@ IsCall lexer byte = (lexer.half ≡ []) × (set_at lexer.sets lexer.sets.gl ≡ 
 -- The byte is this format effector in this state: no code is incomplete, and the C0 set has the format effector for the
 -- byte.
 abbrev pub IsFormatEffector : LexerState → ℕ → TextStep → Type 0
-IsFormatEffector lexer byte step = (lexer.half ≡ []) × (row_of control0_rows byte ≡ Some (Whole (codes.Step step)))
+IsFormatEffector lexer byte step = (lexer.half ≡ []) × (row_of control0_rows byte ≡ Some (Whole (Code.Step step)))
 
 -- The byte is SO or SI in this state: no code is incomplete.
 abbrev pub IsShift : LexerState → ℕ → Type 0

@@ -1,6 +1,5 @@
 use Rattle.std.specs.Prelude.{ℕ, ◌-◌, ◌==◌, ◌≡◌, ◌≢◌, ◌<◌, ◌≤◌, nat_le, ◌||◌, true, false, if◌then◌else◌, List, [], ◌∷◌, ◌++◌, Option, Some, None}
 use Rattle.nap_codes.specs.Types.{Code, CodeFault, CodeSet, CodeSets, Left, Mask, Opcode, Row}
-use Rattle.nap_codes.specs.declared.code.Code.TheVariants as codes
 use Rattle.nap_codes.specs.declared.code.CodeFault.TheVariants.{EighthBit, BadEscape, ShiftAlone, ShiftedCode, BadArgument, LeftOut}
 use Rattle.nap_codes.specs.declared.code_set.CodeSet.TheVariants.{Pdi}
 use Rattle.nap_codes.specs.declared.code_set.GSet.TheVariants.{G0, G1, G2, G3}
@@ -14,39 +13,39 @@ use Rattle.nap_codes.specs.Tables.{row_of, number_rows, set_rows, control0_rows,
 -- Under these code sets, the bytes spell this code, and these are the code sets after it.
 pub data Spells (sets : CodeSets) : List ℕ → Code → CodeSets → Type 0 where
   -- a control of the C0 set that isn't a shift
-  control0 : {byte : ℕ} {code : Code} → row_of control0_rows byte ≡ Some (Whole code) → code ≢ codes.Shifted →
+  control0 : {byte : ℕ} {code : Code} → row_of control0_rows byte ≡ Some (Whole code) → code ≢ Code.Shifted →
       Spells sets (byte ∷ []) code sets
   -- SO, SI, LS2 and LS3
-  shift_out : Spells sets (0x0E ∷ []) codes.Shifted (record sets { gl = G1 })
-  shift_in : Spells sets (0x0F ∷ []) codes.Shifted (record sets { gl = G0 })
-  locking_shift2 : Spells sets (0x1B ∷ 0x6E ∷ []) codes.Shifted (record sets { gl = G2 })
-  locking_shift3 : Spells sets (0x1B ∷ 0x6F ∷ []) codes.Shifted (record sets { gl = G3 })
+  shift_out : Spells sets (0x0E ∷ []) Code.Shifted (record sets { gl = G1 })
+  shift_in : Spells sets (0x0F ∷ []) Code.Shifted (record sets { gl = G0 })
+  locking_shift2 : Spells sets (0x1B ∷ 0x6E ∷ []) Code.Shifted (record sets { gl = G2 })
+  locking_shift3 : Spells sets (0x1B ∷ 0x6F ∷ []) Code.Shifted (record sets { gl = G3 })
   -- APS
   position : {row column : ℕ} → IsGraphic row → IsGraphic column →
-      Spells sets (0x1C ∷ row ∷ column ∷ []) (codes.Step (Aps row column)) sets
+      Spells sets (0x1C ∷ row ∷ column ∷ []) (Code.Step (Aps row column)) sets
   -- a control of the C1 set without an argument
   control1 : {byte : ℕ} {code : Code} → row_of control1_rows byte ≡ Some (Whole code) → Spells sets (0x1B ∷ byte ∷ []) code sets
   -- DEF MACRO, DEFP MACRO, DEF DRCS, DEF TEXTURE and REPEAT
-  def_macro : {name : ℕ} → IsGraphic name → Spells sets (0x1B ∷ 0x40 ∷ name ∷ []) (codes.DefMacro name false) sets
-  defp_macro : {name : ℕ} → IsGraphic name → Spells sets (0x1B ∷ 0x41 ∷ name ∷ []) (codes.DefMacro name true) sets
-  def_drcs : {byte : ℕ} → IsGraphic byte → Spells sets (0x1B ∷ 0x43 ∷ byte ∷ []) (codes.DefGlyph byte) sets
+  def_macro : {name : ℕ} → IsGraphic name → Spells sets (0x1B ∷ 0x40 ∷ name ∷ []) (Code.DefMacro name false) sets
+  defp_macro : {name : ℕ} → IsGraphic name → Spells sets (0x1B ∷ 0x41 ∷ name ∷ []) (Code.DefMacro name true) sets
+  def_drcs : {byte : ℕ} → IsGraphic byte → Spells sets (0x1B ∷ 0x43 ∷ byte ∷ []) (Code.DefGlyph byte) sets
   def_texture : {byte : ℕ} {mask : Mask} → row_of mask_rows byte ≡ Some mask →
-      Spells sets (0x1B ∷ 0x44 ∷ byte ∷ []) (codes.DefMask mask) sets
-  repeat : {byte : ℕ} → 0x40 ≤ byte → byte < 0x80 → Spells sets (0x1B ∷ 0x46 ∷ byte ∷ []) (codes.Repeat (byte - 0x40)) sets
+      Spells sets (0x1B ∷ 0x44 ∷ byte ∷ []) (Code.DefMask mask) sets
+  repeat : {byte : ℕ} → 0x40 ≤ byte → byte < 0x80 → Spells sets (0x1B ∷ 0x46 ∷ byte ∷ []) (Code.Repeat (byte - 0x40)) sets
   -- a designation, with or without one byte 20 before its final byte
   designation : {intermediate final number : ℕ} {set : CodeSet} →
       row_of number_rows intermediate ≡ Some number → row_of set_rows final ≡ Some set →
-      Spells sets (0x1B ∷ intermediate ∷ final ∷ []) (codes.Designated number set) (with_set sets number set)
+      Spells sets (0x1B ∷ intermediate ∷ final ∷ []) (Code.Designated number set) (with_set sets number set)
   spaced_designation : {intermediate final number : ℕ} {set : CodeSet} →
       row_of number_rows intermediate ≡ Some number → row_of set_rows final ≡ Some set →
-      Spells sets (0x1B ∷ intermediate ∷ 0x20 ∷ final ∷ []) (codes.Designated number set) (with_set sets number set)
+      Spells sets (0x1B ∷ intermediate ∷ 0x20 ∷ final ∷ []) (Code.Designated number set) (with_set sets number set)
   -- a code of the set in GL
   in_gl : {byte : ℕ} {code : Code} → IsGraphic byte → non_pdi_code (set_at sets sets.gl) byte ≡ Some code →
       Spells sets (byte ∷ []) code sets
   opcode : {byte : ℕ} {op : Opcode} → set_at sets sets.gl ≡ Pdi → row_of opcode_rows byte ≡ Some op →
-      left_out_opcode op ≡ None → Spells sets (byte ∷ []) (codes.Op op) sets
+      left_out_opcode op ≡ None → Spells sets (byte ∷ []) (Code.Op op) sets
   operand : {byte : ℕ} → set_at sets sets.gl ≡ Pdi → 0x40 ≤ byte → byte < 0x80 →
-      Spells sets (byte ∷ []) (codes.Operand (byte - 0x40)) sets
+      Spells sets (byte ∷ []) (Code.Operand (byte - 0x40)) sets
   -- a code after SS2 or SS3
   single_shift2 : {byte : ℕ} {code : Code} → IsGraphic byte → non_pdi_code sets.g2 byte ≡ Some code →
       Spells sets (0x19 ∷ byte ∷ []) code sets

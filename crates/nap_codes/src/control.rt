@@ -2,7 +2,7 @@
 
 ghost use Rattle.std.specs.Prelude.{◌≡◌};
 ghost use Rattle.nap_codes.specs.Front.{argument_of, with_argument};
-ghost use Rattle.nap_codes.specs.Tables.{control0_rows, control1_rows, format_effector, row_of};
+ghost use Rattle.nap_codes.specs.Tables.{control0_rows, control1_rows, format_effector, is_fill, row_of};
 
 use crate::code::Code;
 use crate::opcode::Left;
@@ -167,6 +167,14 @@ pub fn format_effector(byte: u8) -> Option<TextStep>
         Some(Row::Whole(Code::Step(step))) => Some(step),
         _ => None,
     }
+}
+
+/// Whether a byte is a control of the C0 set that is a complete code without effect (PROFILE.md, The C0 set).
+#[inline]
+pub fn is_fill(byte: u8) -> bool
+    ensures { result ≡ is_fill byte }
+{
+    matches!(control0(byte), Some(Row::Whole(Code::Fill)))
 }
 
 /// Returns the row of the C1 set for the byte after ESC, or `None` outside `40` to `5F` (PROFILE.md, The C1 set).

@@ -6,13 +6,13 @@ ghost use Rattle.nap_codes.specs.Front.{argument_front, column_front, byte_fault
 ghost use Rattle.nap_codes.specs.HalfReadCodes.{IsLastOutcome, half_read_after, IsHalfRead, IsOutcomeOf};
 ghost use Rattle.nap_codes.specs.Laws.{IsGraphic};
 ghost use Rattle.nap_codes.specs.Lexer.{IsCall, IsCharacter, IsFormatEffector, IsOpcode, IsShift, Steps};
-ghost use Rattle.nap_codes.specs.NextCodes.{IsNext};
+ghost use Rattle.nap_codes.specs.NextCodes.{IsNext, IsNextAfterEscape};
 ghost use Rattle.nap_codes.specs.declared.code.Code.TheVariants as codes;
 
 use crate::code::{Code, CodeFault, Step};
 use crate::code_set::{CharSet, CodeSet, CodeSets, GSet, designate};
 use crate::control::{Argument, Row, TextStep, control0, control1};
-use crate::next_code::{NextCode, next_control};
+use crate::next_code::{NextCode, after_escape, next_control};
 use crate::opcode::{Opcode, opcode_of};
 use nap_values::Word;
 use std::marker::Model;
@@ -22,6 +22,8 @@ use std::marker::Model;
 #[derive(Clone, Drop)]
 pub struct Lexer {
     sets: CodeSets,
+    /// The set in GL.
+    in_gl: CodeSet,
     half: HalfRead,
 }
 
@@ -30,11 +32,13 @@ impl Model for Lexer {
 
     ghost Value = { LexerState };
 
+    ghost use Rattle.std.specs.Prelude.{◌≡◌};
+    ghost use Rattle.nap_codes.specs.CodeSets.{set_at};
     ghost use Rattle.nap_codes.specs.HalfReadCodes.{half_read_bytes, IsHalfRead};
 
     ghost view = { λ l. record { sets = l.sets; half = half_read_bytes l.half } };
 
-    ghost invariant = { λ l. IsHalfRead l.half };
+    ghost invariant = { λ l. IsHalfRead l.half × (l.in_gl ≡ set_at l.sets l.sets.gl) };
 }
 
 /// The bytes read so far of an incomplete code.
@@ -78,6 +82,7 @@ impl Lexer {
     {
         Lexer {
             sets: CodeSets::start(),
+            in_gl: CodeSet::Primary,
             half: HalfRead::Nothing,
         }
     }
@@ -117,7 +122,18 @@ impl Lexer {
         if !self.at_rest() {
             return None;
         }
-        self.sets.set_at(self.sets.gl).char_set()
+        self.in_gl.char_set()
+    }
+
+    /// Returns the set in GL, if no code is incomplete.
+    #[inline]
+    pub fn set_in_gl(&self) -> Option<CodeSet>
+        ensures { (set : CodeSet) → (result ≡ Some set) ↔ (self.now.half ≡ []) × (set_at self.now.sets self.now.sets.gl ≡ set) }
+    {
+        if !self.at_rest() {
+            return None;
+        }
+        Some(self.in_gl)
     }
 
     /// Returns the opcode that this byte is in the current state: if no code is incomplete, the PDI set is in GL, and
@@ -127,10 +143,10 @@ impl Lexer {
         ensures is { (op : Opcode) → (result ≡ Some op) ↔ IsOpcode self.now byte op }
         ensures front { IfSome result (λ op. front self.now.sets (byte ∷ []) ≡ complete (codes.Op op) 1 self.now.sets) }
     {
-        if byte < 0x20 || byte >= 0x40 {
+        if !self.at_rest() || self.in_gl != CodeSet::Pdi {
             return None;
         }
-        if !self.at_rest() || self.sets.set_at(self.sets.gl) != CodeSet::Pdi {
+        if byte < 0x20 || byte >= 0x40 {
             return None;
         }
         let op = opcode_of(byte)?;
@@ -147,10 +163,7 @@ impl Lexer {
         ensures is { IsTrue result ↔ IsCall self.now byte }
         ensures front { IsTrue result → (rest : List ℕ) → front self.now.sets (byte ∷ rest) ≡ complete (codes.Call byte) 1 self.now.sets }
     {
-        byte >= 0x20
-            && byte < 0x80
-            && self.at_rest()
-            && self.sets.set_at(self.sets.gl) == CodeSet::Macros
+        self.at_rest() && byte >= 0x20 && byte < 0x80 && self.in_gl == CodeSet::Macros
     }
 
     /// Returns the format effector that this byte is in the current state, if no code is incomplete. APS isn't one,
@@ -164,6 +177,15 @@ impl Lexer {
             Some(Row::Whole(Code::Step(step))) if self.at_rest() => Some(step),
             _ => None,
         }
+    }
+
+    /// Whether this byte is BEL in the current state, where no code is incomplete.
+    #[inline]
+    pub fn is_bell(&self, byte: u8) -> bool
+        ensures is { IsTrue result ↔ (self.now.half ≡ []) × (byte ≡ 0x07) }
+        ensures front { IsTrue result → front self.now.sets (byte ∷ []) ≡ complete codes.Bell 1 self.now.sets }
+    {
+        byte == 0x07 && self.at_rest()
     }
 
     /// Whether this byte is SO or SI in the current state, where no code is incomplete.
@@ -180,7 +202,38 @@ impl Lexer {
         requires { IsShift self.old byte }
         ensures { Steps self.old byte (Step.Code codes.Shifted) self.new }
     {
-        self.sets = self.sets.after_control0(byte);
+        if byte == 0x0E {
+            self.sets.gl = GSet::G1;
+            self.in_gl = self.sets.g1;
+        } else {
+            self.sets.gl = GSet::G0;
+            self.in_gl = self.sets.g0;
+        }
+    }
+
+    /// Consumes ESC, as `step` does.
+    #[inline]
+    pub fn escape(&mut self)
+        requires { self.old.half ≡ [] }
+        ensures { Steps self.old 0x1B Step.More self.new }
+    {
+        self.half = HalfRead::Escape;
+    }
+
+    /// Consumes the rest of a code of which ESC alone was read, if it is complete. The number of its bytes has ESC too.
+    pub fn next_after_escape(&mut self, bytes: &[u8]) -> NextCode
+        ensures { IsNextAfterEscape self.old bytes.now result self.new }
+    {
+        if self.half != HalfRead::Escape {
+            return NextCode::Other;
+        }
+        let next = after_escape(&mut self.sets, bytes);
+        if let NextCode::Other = next {
+            return next;
+        }
+        self.half = HalfRead::Nothing;
+        self.in_gl = self.sets.set_at(self.sets.gl);
+        next
     }
 
     /// Consumes the code at the beginning of the bytes if it begins with a control of the C0 set and is complete, and
@@ -189,13 +242,21 @@ impl Lexer {
     pub fn next(&mut self, bytes: &[u8]) -> NextCode
         ensures { IsNext self.old bytes.now result self.new }
     {
+        if !self.at_rest() {
+            return NextCode::Other;
+        }
         let Some((byte, rest)) = bytes.split_first() else {
             return NextCode::Other;
         };
-        if *byte >= 0x20 || !self.at_rest() {
+        if *byte >= 0x20 {
             return NextCode::Other;
         }
-        next_control(&mut self.sets, *byte, rest)
+        let code = next_control(&mut self.sets, *byte, rest);
+        // Only a code that adds nothing changes the sets.
+        if let NextCode::Nothing(_) = code {
+            self.in_gl = self.sets.set_at(self.sets.gl);
+        }
+        code
     }
 
     /// Consumes the next byte. On a fault the lexer is unchanged.
@@ -212,6 +273,7 @@ impl Lexer {
             }
             ByteOutcome::Code(code, sets) => {
                 self.sets = sets;
+                self.in_gl = sets.set_at(sets.gl);
                 self.half = HalfRead::Nothing;
                 Step::Code(code)
             }

@@ -12,7 +12,9 @@ mod opcode;
 
 pub use code::{Code, CodeFault, Step};
 pub use code_set::{CharSet, CodeSet, CodeSets, GSet, designate};
-pub use control::{CursorKind, Mask, Row, Size, TextStep, control0, control1, format_effector};
+pub use control::{
+    CursorKind, Mask, Row, Size, TextStep, control0, control1, format_effector, is_fill,
+};
 pub use lexer::Lexer;
 pub use next_code::NextCode;
 pub use opcode::{FIRST_OPCODE, Left, Opcode, opcode_of};

@@ -116,7 +116,7 @@ fn position(rest: &[u8]) -> NextCode
 /// Consumes the code after ESC.
 #[inline(always)]
 #[tactic(auto, unfolding(crate::specs::Front::escape_front, crate::specs::Front::control1_front, crate::specs::Front::one_byte_later))]
-fn after_escape(sets: &mut CodeSets, rest: &[u8]) -> NextCode
+pub(crate) fn after_escape(sets: &mut CodeSets, rest: &[u8]) -> NextCode
     ensures { IsNextOf (one_byte_later (escape_front sets.old rest.now)) sets.old result sets.new }
 {
     let Some((byte, rest)) = rest.split_first() else {

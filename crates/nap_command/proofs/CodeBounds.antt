@@ -1,16 +1,20 @@
--- How many entries a character or a control adds, and how long their canonical text is.
-
-use Rattle.nap_command.proofs.Common.{Bool, CharSize, Code, CodeSet, CodeSets, Colour, Decides-int_eq, DrawFault, Drawing, Entry, Err, LastChar, List, None, Ok, OpenDefinition, Option, Pen, Result, Row, RuleResult, Some, Spells, State, TextLook, Work, [], after, ap, arith, attributes, char_on, code_is_spelled, code_rule, colour_prelude, command_piece, control0, control0_rows, control1, control1_rows, def_drcs, def_macro, def_texture, definition_ended_by, definition_opened, defp_macro, designation, entry_pieces, false, given_size_commands, hand_of, if◌then◌else◌, in_gl, length, length-take-le, locking_shift2, locking_shift3, look_result, map, named_size_commands, nat_tests, non_pdi_code, one_entry_result, opcode, operand, pel_prelude, pen_prelude, pieces, position, prelude, refl, repeat, repeated_chars, row_of, rule_result, same_colour, same_flag, same_pen, same_size, shift_in, shift_out, single_shift2, single_shift3, spaced_designation, spelling_pieces, subst, suc, take, text_prelude, texture_prelude, true, with_attributes, with_last, zero, ℕ, ◌&&◌, ◌*◌, ◌+◌, ◌==◌, ◌∷◌, ◌≡◌, ◌≤◌}
-use Rattle.nap_codes.specs.declared.code.Code.TheVariants as codes
-use Rattle.nap_codes.specs.declared.code_set.CharSet.TheVariants as chars
-use Rattle.nap_codes.specs.declared.code_set.CodeSet.TheVariants as code_sets
+use Rattle.nap_command.proofs.Common.{Bool, CharSet, Code, CodeSet, CodeSets, Colour, DrawFault, Drawing, EntriesAreBounded, Entry, Err, Fault, LastChar, List, Machine, Mode, None, Ok, Opcode, OpenDefinition, Option, Outcome, Pen, Placed, Refusal, Result, Row, RuleResult, Some, Spells, State, StreamFront, TextIsBounded, Two, Unfinished, Work, [], after, after_body, all_at, ap, arith, attributes, begun, between, body_front, body_front_by, body_of, bound_front, bytes_of, carried_words, char_on, closed_front, code_front, code_is_spelled, code_length, code_rule, colour_prelude, command_piece, control0, control0_rows, control1, control1_rows, definition_ended_by, definition_opened, drawn_front, drop, ended_by, entry_pieces, false, front_by, front_in, half_code, half_read, hand_of, if◌then◌else◌, in_body, in_gl, kind_of, length, length-append, length-drop, length-map, length-take-le, ltb-false, map, means, nat_lt, nat_tests, non_pdi_code, one_entry_result, open_body, open_run, opened_front, pel_prelude, pen_prelude, pieces, place_at, placed_from, prelude, refl, refusal, repeat, repeated_chars, row_of, rule, rule_result, run_length, run_limit, same_colour, same_pen, shown_front, single_shift2, single_shift3, spelling_pieces, start, start_machine, steps_left, store_limit, stream_front, subst, suc, take, take-append-drop, text_end_after_header, texture_prelude, true, walk, with_attributes, with_code, with_definition, with_drawn, with_end, with_last, with_run, with_run_by, zero, ℕ, ◌&&◌, ◌*◌, ◌++◌, ◌+◌, ◌-◌, ◌==◌, ◌∷◌, ◌≡◌, ◌≤◌}
+use Rattle.nap_canon.proofs.PublicLaws.{look_is_current}
 use Rattle.nap_codes.specs.declared.control.Row.TheVariants.{Whole}
 use Rattle.nap_codes.specs.Front as front
-use Rattle.nap_list.specs.declared.attribute.CharSize.TheVariants as sizes
-use Rattle.nap_list.specs.declared.entry.Entry.TheVariants as entries
-use Rattle.nap_canon.specs.declared.form.Form.TheVariants.{Two}
-use Rattle.nap_command.proofs.RunBounds.{AddsAtMost, Few, few_none, few_one, points_of}
-use Rattle.nap_command.proofs.TextBounds.{char_few, cost, cost_append, entries_few, prelude_few}
+use Rattle.nap_reader.specs.Bodies as bodies
+use Rattle.nap_reader.specs.Course as course
+use Rattle.nap_command.proofs.RunBounds.{AddsAtMost, Few, char_few, cost, cost_append, entries_few, few_none, few_one, pieces_few, points_of, prelude_few, rule_adds}
+
+-- How many entries a character or a control adds, and how long their canonical text is.
+
+length-all_at : (place : ℕ) (bytes : List ℕ) → length (all_at place bytes) ≡ length bytes
+length-all_at place bytes = length-map bytes _
+
+length-placed : (n : ℕ) (bytes : List ℕ) → length (placed_from n bytes) ≡ length bytes
+unfolding placed_from
+length-placed n [] = refl
+length-placed n (b ∷ bytes) = ap suc (length-placed (suc n) bytes)
 
 -- The entries that n bytes add are few, and so are the bytes of their canonical text after any other.
 pub record Bounded (n : ℕ) (es : List Entry) : Type 0 where
@@ -36,27 +40,6 @@ pen_same a = grind (arith, nat_tests)
 colour_same : (a : Colour) → same_colour a a ≡ true
 colour_same a = grind (arith, nat_tests)
 
-size_same : (a : CharSize) → same_size a a ≡ true
-size_same a = grind (arith, nat_tests, Decides-int_eq)
-
-flag_same : (a : Bool) → same_flag a a ≡ true
-flag_same a = grind arith
-
-numbers_same : (a b : ℕ) → (a == a && b == b) ≡ true
-numbers_same a b = grind (arith, nat_tests)
-
-given_same : (t : TextLook) (size : CharSize) → t.size ≡ size → given_size_commands t t size ≡ []
-given_same t (sizes.Named size) is = rw (numbers_same t.first t.second) refl
-given_same t (sizes.Given m) is = rw (is, size_same (sizes.Given m), numbers_same t.first t.second) refl
-
-named_same : (size : CharSize) → named_size_commands size size ≡ []
-named_same (sizes.Named size) = rw (size_same (sizes.Named size)) refl
-named_same (sizes.Given m) = refl
-
-look_same : (t : TextLook) → text_prelude t (Some t) ≡ []
-unfolding text_prelude
-look_same t = rw (given_same t t.size refl, named_same t.size, flag_same t.reverse, flag_same t.underline, flag_same t.wrap, flag_same t.scroll) refl
-
 -- the attributes of text are those of another state
 record SameHand (t s : State) : Type 0 where
   pen : t.drawing.pen ≡ s.drawing.pen
@@ -65,7 +48,7 @@ record SameHand (t s : State) : Type 0 where
 
 no_prelude : (t s : State) (last : LastChar) → SameHand t s → prelude t.drawing (attributes (char_on s.drawing last)) ≡ []
 unfolding prelude pen_prelude pel_prelude colour_prelude texture_prelude
-no_prelude t s last is = rw (is.pen, is.colour, is.text, pen_same s.drawing.pen, colour_same s.drawing.colour, look_same s.drawing.text) refl
+no_prelude t s last is = rw (is.pen, is.colour, is.text, pen_same s.drawing.pen, colour_same s.drawing.colour, look_is_current s.drawing.text (Some s.drawing.text) refl) refl
 
 further_few : (t s : State) (last : LastChar) (n : ℕ) → SameHand t s → cost (pieces Two t (repeated_chars s last n)) ≤ 8 * n
 unfolding repeated_chars pieces
@@ -105,7 +88,7 @@ copies_length s last (suc n) = ap suc (copies_length (after s (char_on s.drawing
 
 -- a REPEAT has three bytes, and at most 63 copies; another code has at least one
 abbrev FitsIn : Code → ℕ → Type 0
-FitsIn (codes.Repeat count) n = (count ≤ 63) × (3 ≤ n)
+FitsIn (Code.Repeat count) n = (count ≤ 63) × (3 ≤ n)
 FitsIn _ n = 1 ≤ n
 
 copied : (n : ℕ) (work : Work) (count : ℕ) (last : Option LastChar) → count ≤ 63 → 3 ≤ n → AddsFor n (with_last last (λ last. Ok (rule_result work (repeated_chars work.state last count))))
@@ -117,7 +100,7 @@ copied n work count (Some last) few long = record {
 
 ended_few : (work : Work) (definition : Option OpenDefinition) → Few 2 0 (definition_ended_by work definition).entries
 ended_few work None = few_none 2 0
-ended_few work (Some opened) = few_one 1 0 entries.DefEnd (omega arith)
+ended_few work (Some opened) = few_one 1 0 Entry.DefEnd (omega arith)
 
 opened_few : (work : Work) (e : Entry) (definition : Option OpenDefinition) → points_of e ≡ 0 → Few 2 0 (definition_opened (definition_ended_by work definition) e).entries
 opened_few work e None plain = few_one 1 0 e (omega (arith, plain))
@@ -134,36 +117,25 @@ two_for n r few some = few_for n 2 0 r few (omega (arith, some)) (omega (arith, 
 one_for : (n : ℕ) (work : Work) (e : Entry) → 1 ≤ n → points_of e ≡ 0 → AddsFor n (one_entry_result work e)
 one_for n work e some plain = few_for n 1 0 (one_entry_result work e) (few_one 0 0 e (omega (arith, plain))) (omega (arith, some)) (omega (arith, some))
 
-none_for : (n : ℕ) (work : Work) → 1 ≤ n → AddsFor n (Ok (rule_result work []))
-none_for n work some = two_for n (Ok (rule_result work [])) (few_none 2 0) some
-
-look_for : (n : ℕ) (work : Work) (look : TextLook) → 1 ≤ n → AddsFor n (look_result work look)
-look_for n work look some = two_for n (look_result work look) (few_none 2 0) some
-
 code_for : (n : ℕ) (work : Work) (code : Code) → FitsIn code n → AddsFor n (code_rule work code)
-code_for n work (codes.Repeat count) fits = copied n work count work.state.last fits.0 fits.1
-code_for n work (codes.Char set code) some = one_for n work (char_on work.state.drawing (record { set = set; code = code })) some refl
-code_for n work (codes.Step step) some = one_for n work (entries.TextMove step (hand_of work.state.drawing)) some refl
-code_for n work codes.Clear some = one_for n work (entries.Clear work.state.drawing.pen) some refl
-code_for n work codes.Bell some = one_for n work entries.Bell some refl
-code_for n work codes.ToEol some = to_end n work work.state.last (entries.ToEol (hand_of work.state.drawing)) some refl
-code_for n work (codes.BlinkMark on) some = one_for n work (entries.BlinkMark on work.state.drawing.colour) some refl
-code_for n work (codes.Cursor kind) some = one_for n work (entries.Cursor kind) some refl
-code_for n work (codes.Named size) some = look_for n work work.state.drawing.text some
-code_for n work (codes.Reverse on) some = look_for n work work.state.drawing.text some
-code_for n work (codes.Underline on) some = look_for n work work.state.drawing.text some
-code_for n work (codes.Wrap on) some = look_for n work work.state.drawing.text some
-code_for n work (codes.Scroll on) some = look_for n work work.state.drawing.text some
-code_for n work (codes.DefGlyph code) some = two_for n (code_rule work (codes.DefGlyph code)) (opened_few work (entries.GlyphStart code) work.state.definition refl) some
-code_for n work (codes.DefMask mask) some = two_for n (code_rule work (codes.DefMask mask)) (opened_few work (entries.MaskStart mask) work.state.definition refl) some
-code_for n work (codes.DefMacro name show) some = two_for n (code_rule work (codes.DefMacro name show)) (ended_few work work.state.definition) some
-code_for n work codes.End some = two_for n (code_rule work codes.End) (ended_few work work.state.definition) some
-code_for n work _ some = none_for n work some
+code_for n work (Code.Repeat count) fits = copied n work count work.state.last fits.0 fits.1
+code_for n work (Code.Char set code) some = one_for n work (char_on work.state.drawing (record { set = set; code = code })) some refl
+code_for n work (Code.Step step) some = one_for n work (Entry.TextMove step (hand_of work.state.drawing)) some refl
+code_for n work Code.Clear some = one_for n work (Entry.Clear work.state.drawing.pen) some refl
+code_for n work Code.Bell some = one_for n work Entry.Bell some refl
+code_for n work Code.ToEol some = to_end n work work.state.last (Entry.ToEol (hand_of work.state.drawing)) some refl
+code_for n work (Code.BlinkMark on) some = one_for n work (Entry.BlinkMark on work.state.drawing.colour) some refl
+code_for n work (Code.Cursor kind) some = one_for n work (Entry.Cursor kind) some refl
+code_for n work (Code.DefGlyph code) some = two_for n (code_rule work (Code.DefGlyph code)) (opened_few work (Entry.GlyphStart code) work.state.definition refl) some
+code_for n work (Code.DefMask mask) some = two_for n (code_rule work (Code.DefMask mask)) (opened_few work (Entry.MaskStart mask) work.state.definition refl) some
+code_for n work (Code.DefMacro name show) some = two_for n (code_rule work (Code.DefMacro name show)) (ended_few work work.state.definition) some
+code_for n work Code.End some = two_for n (code_rule work Code.End) (ended_few work work.state.definition) some
+code_for n work code some = two_for n (code_rule work code) (few_none 2 0) some
 
 -- no row of a table is a REPEAT, which has an argument
 
 abbrev is_short : Row → Bool
-is_short (Whole (codes.Repeat count)) = false
+is_short (Whole (Code.Repeat count)) = false
 is_short _ = true
 
 abbrev all_short : List (ℕ × Row) → Bool
@@ -182,7 +154,7 @@ row_short (r ∷ rows) byte row all is = by (byte == r.0) (is_short r.1) refl al
     by b false own all is next = cc
 
 short_fits : (code : Code) → is_short (Whole code) ≡ true → (n : ℕ) → 1 ≤ n → FitsIn code n
-short_fits (codes.Repeat count) is n some = cc
+short_fits (Code.Repeat count) is n some = cc
 short_fits _ is n some = some
 
 rows0_short : all_short control0_rows ≡ true
@@ -198,36 +170,210 @@ same_fits a b n is fits = let e : a ≡ b = cc in subst (λ (x : Code). FitsIn x
 
 set_fits : (set : CodeSet) (byte : ℕ) (code : Code) (n : ℕ) → non_pdi_code set byte ≡ Some code → 1 ≤ n → FitsIn code n
 unfolding non_pdi_code
-set_fits code_sets.Primary byte code n is some = same_fits (codes.Char chars.Primary byte) code n is some
-set_fits code_sets.Supplementary byte code n is some = same_fits (codes.Char chars.Supplementary byte) code n is some
-set_fits code_sets.Mosaic byte code n is some = same_fits (codes.Char chars.Mosaic byte) code n is some
-set_fits code_sets.Drcs byte code n is some = same_fits (codes.Char chars.Drcs byte) code n is some
-set_fits code_sets.Macros byte code n is some = same_fits (codes.Call byte) code n is some
-set_fits code_sets.Pdi byte code n is some = cc
+set_fits CodeSet.Primary byte code n is some = same_fits (Code.Char CharSet.Primary byte) code n is some
+set_fits CodeSet.Supplementary byte code n is some = same_fits (Code.Char CharSet.Supplementary byte) code n is some
+set_fits CodeSet.Mosaic byte code n is some = same_fits (Code.Char CharSet.Mosaic byte) code n is some
+set_fits CodeSet.Drcs byte code n is some = same_fits (Code.Char CharSet.Drcs byte) code n is some
+set_fits CodeSet.Macros byte code n is some = same_fits (Code.Call byte) code n is some
+set_fits CodeSet.Pdi byte code n is some = cc
 
 -- a code fits in the bytes that spell it
 spelled_fits : (sets : CodeSets) (bytes : List ℕ) (code : Code) (after : CodeSets) → Spells sets bytes code after → FitsIn code (length bytes)
 spelled_fits sets _ code _ (control0 is other) = short_fits code (row_short control0_rows _ (Whole code) rows0_short is) 1 (omega arith)
-spelled_fits sets _ _ _ shift_out = omega arith
-spelled_fits sets _ _ _ shift_in = omega arith
-spelled_fits sets _ _ _ locking_shift2 = omega arith
-spelled_fits sets _ _ _ locking_shift3 = omega arith
-spelled_fits sets _ _ _ (position row column) = omega arith
 spelled_fits sets _ code _ (control1 is) = short_fits code (row_short control1_rows _ (Whole code) rows1_short is) 2 (omega arith)
-spelled_fits sets _ _ _ (def_macro name) = omega arith
-spelled_fits sets _ _ _ (defp_macro name) = omega arith
-spelled_fits sets _ _ _ (def_drcs name) = omega arith
-spelled_fits sets _ _ _ (def_texture mask) = omega arith
 spelled_fits sets _ _ _ (repeat least most) = (omega (arith, least, most), omega arith)
-spelled_fits sets _ _ _ (designation number set) = omega arith
-spelled_fits sets _ _ _ (spaced_designation number set) = omega arith
 spelled_fits sets _ code _ (in_gl graphic is) = set_fits _ _ code 1 is (omega arith)
-spelled_fits sets _ _ _ (opcode pdi is drawn) = omega arith
-spelled_fits sets _ _ _ (operand pdi least most) = omega arith
 spelled_fits sets _ code _ (single_shift2 graphic is) = set_fits _ _ code 2 is (omega arith)
 spelled_fits sets _ code _ (single_shift3 graphic is) = set_fits _ _ code 2 is (omega arith)
+spelled_fits sets _ _ _ _ = omega arith
 
 pub code_adds : (work : Work) (sets : CodeSets) (xs : List ℕ) (code : Code) (n : ℕ) (after : CodeSets) → front.front sets xs ≡ front.complete code n after → AddsFor n (code_rule work code)
 code_adds work sets xs code n after is =
     let (within, spelled) = (code_is_spelled sets xs code n after).0 is in
     code_for n work code (subst (FitsIn code) (length-take-le n xs within) (spelled_fits sets (take n xs) code after spelled))
+
+-- How many entries a page has, and how long its canonical text is.
+
+-- an open run has fewer words than its bytes
+abbrev IsPending : Option Unfinished → ℕ → Type 0
+IsPending (Some (open_run op place run)) n = suc (length run) ≤ n
+IsPending _ n = Unit {0}
+
+-- The entries es take some of the bytes that are left, and of what may be charged; the others are counted again.
+record Takes (before after : ℕ) (es : List Entry) : Type 0 where
+  count : length es + 21 * after ≤ 21 * before
+  size : (t : State) → cost (pieces Two t es) + 190 * after ≤ 190 * before
+
+abbrev IsFew : ℕ → ℕ → StreamFront → Type 0
+IsFew bytes left (course.pause u) = IsPending (Some u) bytes
+IsFew bytes left (course.refuse r) = Unit {0}
+IsFew bytes left (course.act es m ys) = Takes (bytes + left) (length ys + m.left) es
+
+no_pieces : (t : State) → cost (pieces Two t []) ≡ 0
+unfolding pieces
+no_pieces t = refl
+
+takes_none : (before after : ℕ) → after ≤ before → Takes before after []
+takes_none before after fewer = record { count = omega (arith, fewer); size = λ t. omega (arith, fewer, no_pieces t) }
+
+takes_some : (before after n : ℕ) (es : List Entry) → Bounded n es → n + after ≤ before → Takes before after es
+takes_some before after n es few parts = record { count = omega (arith, few.count, parts); size = λ t. omega (arith, few.size t, parts) }
+
+-- a code drew, and took some bytes before the rest
+drawn_few : (bytes taken : ℕ) (m : Machine) (place : ℕ) (rest : List Placed) (r : Result RuleResult DrawFault) → AddsFor taken r → taken + length rest ≤ bytes → IsFew bytes m.left (drawn_front m place rest r)
+drawn_few bytes taken m place rest (Ok drawn) few parts = takes_some (bytes + m.left) (length rest + m.left) taken drawn.entries few (omega (arith, parts))
+drawn_few bytes taken m place rest (Err fault) few parts = tt
+
+-- the bytes of a body were charged
+shown_few : (bytes : ℕ) (m : Machine) (place : ℕ) (body : List ℕ) (rest : List Placed) → length rest ≤ bytes → IsFew bytes m.left (shown_front m place body rest)
+shown_few bytes m place body rest fewer = by (nat_lt m.left (length body)) refl
+  where
+    by : (b : Bool) → nat_lt m.left (length body) ≡ b → IsFew bytes m.left (if b then course.refuse (refusal Fault.Budget place) else course.act [] (record m { left = m.left - length body }) (all_at place body ++ rest))
+    by true is = tt
+    by false is =
+        takes_none (bytes + m.left) (length (all_at place body ++ rest) + (m.left - length body))
+        (omega (arith, ltb-false m.left (length body) is, fewer, length-append (all_at place body) rest, length-all_at place body))
+
+closed_few : (bytes taken : ℕ) (m : Machine) (op : Opcode) (place : ℕ) (run rest : List Placed) → 1 ≤ taken → taken + (length run + length rest) ≤ bytes → IsFew bytes m.left (closed_front m op place run rest)
+closed_few bytes taken m op place run [] some parts = omega (arith, some, parts, length-map run (λ x. x.byte - 64))
+closed_few bytes taken m op place run (x ∷ xs) some parts =
+    let words : length (carried_words run) ≡ length run = length-map run (λ x. x.byte - 64) in
+    drawn_few bytes (taken + length run) m place (x ∷ xs) (rule m.work op (carried_words run))
+    (few_for (taken + length run) (suc (length (carried_words run))) (length (carried_words run) + 2) (rule m.work op (carried_words run)) (rule_adds m.work op (carried_words run)) (omega (arith, some, words)) (omega (arith, some, words)))
+    (omega (arith, parts))
+
+opcode_few : (bytes taken : ℕ) (m : Machine) (op : Opcode) (place : ℕ) (xs : List Placed) → 1 ≤ taken → taken + length xs ≤ bytes → IsFew bytes m.left (opened_front m op place xs)
+opcode_few bytes taken m op place xs some parts =
+    by (nat_lt run_limit (length (take (run_length xs) xs)))
+    (closed_few bytes taken m op place (take (run_length xs) xs) (drop (run_length xs) xs) some (omega (arith, parts, ap length (take-append-drop (run_length xs) xs), length-append (take (run_length xs) xs) (drop (run_length xs) xs))))
+  where
+    by : (b : Bool) → IsFew bytes m.left (closed_front m op place (take (run_length xs) xs) (drop (run_length xs) xs)) →
+        IsFew bytes m.left (if b then course.refuse (refusal Fault.LongRun place) else closed_front m op place (take (run_length xs) xs) (drop (run_length xs) xs))
+    by true h = tt
+    by false h = h
+
+-- a code of n bytes, with the rest after it
+code_few : (bytes n : ℕ) (m : Machine) (c : Code) (place : ℕ) (rest : List Placed) → 1 ≤ n → n + length rest ≤ bytes → AddsFor n (code_rule m.work c) → IsFew bytes m.left (code_front m (kind_of c) place rest)
+code_few bytes n m (Code.Op op) place rest some parts adds = opcode_few bytes n m op place rest some parts
+code_few bytes n m (Code.Operand word) place rest some parts adds = tt
+code_few bytes n m Code.Fill place rest some parts adds = takes_none (bytes + m.left) (length rest + m.left) (omega (arith, parts))
+code_few bytes n m Code.Shifted place rest some parts adds = takes_none (bytes + m.left) (length rest + m.left) (omega (arith, parts))
+code_few bytes n m (Code.Designated number set) place rest some parts adds = takes_none (bytes + m.left) (length rest + m.left) (omega (arith, parts))
+code_few bytes n m (Code.Call name) place rest some parts adds = shown_few bytes m place (body_of m.names name) rest (omega (arith, parts))
+code_few bytes n m (Code.DefMacro name show) place rest some parts adds = drawn_few bytes n (record m { mode = in_body name show }) place rest (code_rule m.work (Code.DefMacro name show)) adds parts
+code_few bytes n m c place rest some parts adds = drawn_few bytes n m place rest (code_rule m.work c) adds parts
+
+half_few : (n : ℕ) (bytes : List ℕ) → IsPending (Some (half_read bytes)) n
+half_few n [] = tt
+half_few n (b ∷ bytes) = tt
+
+between_few : (m : Machine) (xs : List Placed) (c : front.Front) → front.front m.sets (bytes_of xs) ≡ c → IsFew (length xs) m.left (front_by m xs c)
+between_few m xs front.unfinished is = half_few (length xs) (bytes_of xs)
+between_few m xs (front.refused fault i) is = tt
+between_few m xs (front.complete c n sets) is =
+    let (some, within) = code_length m.sets (bytes_of xs) c n sets is in
+    code_few (length xs) n (record m { sets = sets }) c (place_at xs (n - 1)) (drop n xs) some
+    (omega (arith, within, length-map xs (λ x. x.byte), length-drop n xs))
+    (code_adds m.work m.sets (bytes_of xs) c n sets is)
+
+bound_few : (m : Machine) (name : ℕ) (show : Bool) (n : ℕ) (xs : List Placed) → IsFew (length xs) m.left (bound_front m name show n xs)
+bound_few m name false n xs = takes_none (length xs + m.left) (length (drop n xs) + m.left) (omega (arith, length-drop n xs))
+bound_few m name true n xs = shown_few (length xs) (after_body m name (take n (bytes_of xs))) (place_at xs (n + 1)) (take (n + 2) (bytes_of xs)) (drop (n + 2) xs) (omega (arith, length-drop (n + 2) xs))
+
+body_few : (m : Machine) (name : ℕ) (show : Bool) (xs : List Placed) (b : bodies.BodyFront) → IsFew (length xs) m.left (body_front_by m name show xs b)
+body_few m name show xs (bodies.ended n) = bound_few m name show n xs
+body_few m name show xs _ = tt
+
+mode_few : (mode : Mode) (m : Machine) (xs : List Placed) → IsFew (length xs) m.left (front_in mode m xs)
+mode_few between m xs = between_few m xs (front.front m.sets (bytes_of xs)) refl
+mode_few (in_body name show) m xs = body_few m name show xs (body_front (store_limit - m.stored) (bytes_of xs))
+
+front_few : (m : Machine) (xs : List Placed) → IsFew (length xs) m.left (stream_front m xs)
+unfolding stream_front
+front_few m xs = mode_few m.mode m xs
+
+-- entries of an outcome, with what is left of the input and of the budget
+record Bounds (before : ℕ) (o : Outcome) : Type 0 where
+  takes : Takes before (length o.rest + o.machine.left) o.entries
+  pending : IsPending o.unfinished (length o.rest)
+
+joined_cost : (t : State) (es fs : List Entry) → cost (pieces Two t (es ++ fs)) ≡ cost (pieces Two t es) + cost (pieces Two (walk t es) fs)
+unfolding pieces walk
+joined_cost t [] fs = omega arith
+joined_cost t (e ∷ es) fs =
+    omega (
+      arith,
+      cost_append (entry_pieces Two t e) (pieces Two (after t e) (es ++ fs)),
+      cost_append (entry_pieces Two t e) (pieces Two (after t e) es),
+      joined_cost (after t e) es fs,
+    )
+
+takes_both : (m n k : ℕ) (es fs : List Entry) → Takes m n es → Takes n k fs → Takes m k (es ++ fs)
+takes_both m n k es fs first further = record {
+  count = omega (arith, length-append es fs, first.count, further.count);
+  size = λ t. omega (arith, joined_cost t es fs, first.size t, further.size (walk t es));
+}
+
+within_few : (fuel : ℕ) (m : Machine) (xs : List Placed) → Bounds (length xs + m.left) (course.outcome_within stream_front fuel m xs)
+unfolding course.outcome_within
+within_few zero m xs = record { takes = takes_none (length xs + m.left) (length xs + m.left) (omega arith); pending = tt }
+within_few (suc fuel) m xs = by (stream_front m xs) (front_few m xs) (within_few fuel)
+  where
+    by : (f : StreamFront) → IsFew (length xs) m.left f → ((m : Machine) (xs : List Placed) → Bounds (length xs + m.left) (course.outcome_within stream_front fuel m xs)) →
+        Bounds (length xs + m.left) (course.outcome_by_front (course.outcome_within stream_front fuel) m xs f)
+    by (course.pause u) h next = record { takes = takes_none (length xs + m.left) (length xs + m.left) (omega arith); pending = h }
+    by (course.refuse r) h next = record { takes = takes_none (length xs + m.left) (0 + m.left) (omega arith); pending = tt }
+    by (course.act es k ys) h next =
+        let o = course.outcome_within stream_front fuel k ys in
+        let further = next k ys in
+        record { takes = takes_both (length xs + m.left) (length ys + k.left) (length o.rest + o.machine.left) es o.entries h further.takes; pending = further.pending }
+
+begun_few : (budget : ℕ) (p : List ℕ) → Bounds (length p + budget) (begun budget p)
+unfolding course.outcome
+begun_few budget p =
+    let h = within_few (suc (length (placed_from 0 p) + steps_left (start_machine budget))) (start_machine budget) (placed_from 0 p) in
+    subst (λ (n : ℕ). Bounds (n + budget) (begun budget p)) (length-placed 0 p) h
+
+-- the end adds the entries of an open run alone
+
+definition_within : (n place : ℕ) (o : Outcome) (opened : Option OpenDefinition) → Bounded n o.entries → Bounded n (with_definition o place opened).entries
+definition_within n place o None h = h
+definition_within n place o (Some opened) h = h
+
+code_within : (n place : ℕ) (o : Outcome) (u : Option Unfinished) → Bounded n o.entries → Bounded n (with_code o place u).entries
+code_within n place o (Some (half_code bytes)) h = h
+code_within n place o (Some open_body) h = h
+code_within n place o _ h = definition_within n place o o.machine.work.state.definition h
+
+end_within : (n place : ℕ) (o : Outcome) (r : Option Refusal) → Bounded n o.entries → Bounded n (with_end o place r).entries
+end_within n place o (Some r) h = h
+end_within n place o None h = code_within n place o o.unfinished h
+
+-- entries are bounded without what is left
+whole : (n after : ℕ) (es : List Entry) → Takes n after es → Bounded n es
+whole n after es h = record { count = omega (arith, h.count); size = λ t. omega (arith, h.size t) }
+
+run_within : (n : ℕ) (o : Outcome) (u : Option Unfinished) → Takes n (length o.rest + o.machine.left) o.entries → IsPending u (length o.rest) → Bounded n (with_run_by o u).entries
+run_within n o (Some (open_run op place run)) h few = by (rule o.machine.work op run) (few_for (suc (length run)) (suc (length run)) (length run + 2) (rule o.machine.work op run) (rule_adds o.machine.work op run) (omega arith) (omega arith))
+  where
+    by : (r : Result RuleResult DrawFault) → AddsFor (suc (length run)) r → Bounded n (with_drawn o place r).entries
+    by (Ok drawn) adds =
+        whole n 0 (o.entries ++ drawn.entries)
+        (takes_both n (length o.rest + o.machine.left) 0 o.entries drawn.entries h (takes_some (length o.rest + o.machine.left) 0 (suc (length run)) drawn.entries adds (omega (arith, few))))
+    by (Err fault) adds = whole n (length o.rest + o.machine.left) o.entries h
+run_within n o _ h few = whole n (length o.rest + o.machine.left) o.entries h
+
+ended_within : (n place : ℕ) (o : Outcome) (r : Option Refusal) → Bounds n o → Bounded n (ended_by o place r).entries
+ended_within n place o (Some r) h = whole n (length o.rest + o.machine.left) o.entries h.takes
+ended_within n place o None h = end_within n place (with_run o) (with_run o).refusal (run_within n o o.unfinished h.takes h.pending)
+
+means_few : (budget : ℕ) (p : List ℕ) → Bounded (length p + budget) (means budget p).entries
+means_few budget p = ended_within (length p + budget) (length p) (begun budget p) (begun budget p).refusal (begun_few budget p)
+
+pub entries_are_bounded : EntriesAreBounded
+entries_are_bounded budget p = (means_few budget p).count
+
+pub text_is_bounded : TextIsBounded
+text_is_bounded budget p =
+    let es = (means budget p).entries in
+    omega (arith, (means_few budget p).size start, pieces_few text_end_after_header (pieces Two start es))

@@ -1,34 +1,58 @@
-use Rattle.nap_command.proofs.Common.{Appends, Bool, Command, EndsWhole, Err, Fails, Failure, Finds, IsPartly, List, Option, Reading, TakesText, Verdict, [], arith, inl, inr, length, length-take, refl, subst, suc, sym, take, true, zero, ℕ, ◌≡◌, ◌≤◌}
-use Rattle.nap_command.specs.declared.failure.Failure.TheVariants as failure
+use Rattle.nap_command.proofs.Common.{Appends, Bool, DeniesInput, EndsPrinting, Err, FailsToMake, Failure, IsPrinted, List, ListFault, MakeFault, MatchResult, Ok, Option, Printout, Reading, Reported, Result, TakesText, Verdict, [], ap, arith, failure_of, false, inl, inr, is_err, length, length-take, or-false, or-true, refl, subst, sym, take, take-nil, take_all, true, ℕ, ◌||◌, ◌∙◌, ◌≡◌, ◌≤◌}
 
 -- The end of a command whose output fails.
 
 prefix_length : (n : ℕ) (xs : List ℕ) → n ≤ length xs → length (take n xs) ≡ n
 prefix_length n xs h = omega (arith, length-take n xs, h)
 
-take_of_nothing : (n : ℕ) → let nothing : List ℕ = [] in take n nothing ≡ nothing
-take_of_nothing zero = refl
-take_of_nothing (suc n) = refl
+prefix_of_prefix : (n : ℕ) (xs : List ℕ) → n ≤ length xs → take (length (take n xs)) xs ≡ take n xs
+prefix_of_prefix n xs h = subst (λ (m : ℕ). take m xs ≡ take n xs) (sym (prefix_length n xs h)) refl
 
--- the output failed after n bytes of a text
-broken : (c : Command) (p : List ℕ) (a : Reading) (text : List ℕ) (old new : Option (List ℕ)) (b : Bool) (n : ℕ)
-    → TakesText old new text (Err (failure.Write n)) → b ≡ true → IsPartly c p a (take n text) → (q : List ℕ) × Appends old new q × EndsWhole c p a q b (Err (failure.Write n))
-broken c p a text old new b n k e partly = (
-  take n text,
-  k.1,
-  subst (λ (x : Bool). EndsWhole c p a (take n text) x (Err (failure.Write n))) (sym e) (sym (prefix_length n text k.0), partly),
-)
+-- the output failed during a text
+pub printed_partly : (text : List ℕ) (ended : Result Verdict Failure) (old new : Option (List ℕ)) (b : Bool) (f : Failure) → TakesText old new text (Err f) → b ≡ true →
+    (q : List ℕ) × Appends old new q × IsPrinted text ended q b (Err f)
+printed_partly text ended old new b (Failure.Write n) h e =
+    (take n text, h.1, rw e (ap (λ (m : ℕ). Err (Failure.Write m)) (sym (prefix_length n text h.0)), prefix_of_prefix n text h.0))
+printed_partly text ended old new b _ h e = absurd h
 
--- the output failed during a printout
-pub ends_amid : (c : Command) (p : List ℕ) (a : Reading) (text : List ℕ) (v : Verdict) (old new : Option (List ℕ)) (b : Bool) (f : Failure)
-    → Finds c p a text v → TakesText old new text (Err f) → b ≡ true → (q : List ℕ) × Appends old new q × EndsWhole c p a q b (Err f)
-ends_amid c p a text v old new b (failure.Write n) h k e =
-    broken c p a text old new b n k e
-    (inl (text, v, h, subst (λ (m : ℕ). take m text ≡ take n text) (sym (prefix_length n text k.0)) refl))
-ends_amid c p a text v old new b _ h k e = absurd k
+-- nothing was printed after a failure
+pub nothing_printed : (q : List ℕ) (b : Bool) (own ended : Result Verdict Failure) → IsPrinted [] own q b ended → q ≡ []
+nothing_printed q false own ended h = h.0
+nothing_printed q true own ended h = sym h.1 ∙ take-nil (length q)
 
--- the output failed after the command had failed
-pub ends_after : (c : Command) (p : List ℕ) (a : Reading) (before : Failure) (old new : Option (List ℕ)) (b : Bool) (f : Failure)
-    → Fails c p a before → TakesText old new [] (Err f) → b ≡ true → (q : List ℕ) × Appends old new q × EndsWhole c p a q b (Err f)
-ends_after c p a before old new b (failure.Write n) h k e = broken c p a [] old new b n k e (inr (before, h, take_of_nothing n))
-ends_after c p a before old new b _ h k e = absurd k
+-- what was found was printed
+pub ends_printing : (finds : List ℕ → Verdict → Type 0) (fails : Failure → Type 0) (found : Result Printout Failure) (q : List ℕ) (b : Bool) (ended : Result Verdict Failure) →
+    MatchResult found (λ a. finds a.text.items a.verdict) fails → MatchResult found (λ a. IsPrinted a.text.items (Ok a.verdict) q b ended) (λ f. IsPrinted [] (Err f) q b ended) →
+    EndsPrinting finds fails (length q) q b ended
+ends_printing finds fails (Ok a) q false ended h printed = rw (printed.0, printed.1) h
+ends_printing finds fails (Err f) q false ended h printed = rw (printed.1) (printed.0, h)
+ends_printing finds fails (Ok a) q true ended h printed = rw (printed.0) (refl, inl (a.text.items, a.verdict, h, printed.1))
+ends_printing finds fails (Err f) q true ended h printed = rw (printed.0) (refl, inr (f, h, nothing_printed q true (Err f) ended printed))
+
+-- Reads and writes in sequence.
+
+-- an output that hasn't failed has no failed write
+pub none_written_amiss : (wrote failed : Bool) → (wrote ≡ true → failed ≡ true) → failed ≡ false → wrote ≡ false
+none_written_amiss false failed law works = refl
+none_written_amiss true failed law works = let bad = sym (law refl) ∙ works in cc
+
+-- a call that doesn't fail keeps the flag
+pub flag_stays : (first before after : Bool) → before ≡ first → after ≡ (before || false) → after ≡ first
+flag_stays first before after h k = k ∙ (or-false before ∙ h)
+
+-- what standard error took of a line that was written
+pub reported_written : (old new : Option (List ℕ)) (line : List ℕ) (r : Result (Unit {0}) Failure) (was now : Bool) → TakesText old new line r → now ≡ (was || is_err r) →
+    (e : List ℕ) × Appends old new e × Reported line e now
+reported_written old new line (Ok done) was now h flag = (line, h, record { prefix = take_all (length line) line (omega arith); all = λ _. refl })
+reported_written old new line (Err (Failure.Write n)) was now h flag = (take n line, h.1, record { prefix = prefix_of_prefix n line h.0; all = λ works. cc (or-true was) })
+reported_written old new line (Err _) was now h flag = absurd h
+
+-- The end of `make`.
+
+-- the lines make no page
+pub lines_refused : (p : List ℕ) (seen : Reading) (fault : MakeFault) → DeniesInput p seen (ListFault.Lines fault) → FailsToMake p seen (failure_of fault)
+lines_refused p seen (MakeFault.Line number column) h = record { fault = MakeFault.Line number column; before = h.0; refuses = h.1; fails = refl }
+lines_refused p seen (MakeFault.Misfit number) h = record { fault = MakeFault.Misfit number; before = h.0; refuses = h.1; fails = refl }
+lines_refused p seen (MakeFault.Open number opening) h = record { fault = MakeFault.Open number opening; before = h.0; refuses = h.1; fails = refl }
+lines_refused p seen MakeFault.Memory h = h
+lines_refused p seen MakeFault.Write h = absurd h.1

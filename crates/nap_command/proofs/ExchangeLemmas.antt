@@ -1,7 +1,6 @@
 use Rattle.nap_command.proofs.Common.{Appends-nil, Buffered, Consumes, Ended, Err, Exchange, IsAnswered, IsAsked, IsExchange, IsExchanged, IsRequest, IsWhole, KeepsWithin, List, Ok, Pipes, ReadingEnds, RequestLine, Result, SendsText, StopsIn, [], append-nil, drop, inr, no_memory, pipes, reading, reading_between, refl, subst, sym, take, take-append-drop, ℕ, ◌++◌, ◌+◌, ◌∙◌, ◌≡◌}
-use Rattle.nap_list.specs.declared.device.inlet.Inlet as inlet
-use Rattle.nap_list.specs.declared.device.outlet.Outlet as outlet
-use Rattle.nap_command.specs.declared.batch.service.Ended.TheVariants as ended
+use Rattle.nap_list.specs.declared.device.Inlet as inlet
+use Rattle.nap_list.specs.declared.device.Outlet as outlet
 use Rattle.nap_command.proofs.FrontLemmas.{page_is, whole_request}
 use Rattle.nap_command.proofs.SessionLemmas.{stops_alike}
 
@@ -31,7 +30,7 @@ module _ {I O : Type 0} (i : inlet.Ghosts I) (o : outlet.Ghosts O) (written : �
     flushed = flushed;
     once = once;
   }
-  answered read works x is parts within (Err (ended.Write n)) (part, sent, front, count, failed, flushes) = record {
+  answered read works x is parts within (Err (Ended.Write n)) (part, sent, front, count, failed, flushes) = record {
     bytes = bytes;
     part = part;
     read = read;
@@ -45,7 +44,7 @@ module _ {I O : Type 0} (i : inlet.Ghosts I) (o : outlet.Ghosts O) (written : �
 -- no request was read
 pub stops_in : (written : ℕ) (rest : List ℕ) (before after : Pipes) (end : Ended) → ReadingEnds (reading_between before after) rest end → after.output_failed ≡ before.output_failed →
     StopsIn written rest [] before after end
-stops_in written rest _ _ (ended.Write n) h works = absurd h
+stops_in written rest _ _ (Ended.Write n) h works = absurd h
 stops_in written rest _ _ _ h works = (refl, h, works)
 
 -- No request was read.

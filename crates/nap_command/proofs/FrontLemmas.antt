@@ -1,6 +1,65 @@
-use Rattle.nap_command.proofs.Common.{All, All-append, All-cons, All-nil, BegunRequestsAreNone, IsBegun, IsCutShort, IsLine, IsMore, IsRequest, IsWhole, List, NeverStarts, Question, RequestLine, RequestsAreCutOneWay, SplitsAtByte, StartsNone, [], ap, append_assoc, arith, drop, drop_at, if◌then◌else◌, inl, inr, length, length-append, length-take-le, line_for, question_name, refl, subst, suc, sym, take, take-add, take_at, zero, ℕ, ◌++◌, ◌+◌, ◌-◌, ◌<◌, ◌==◌, ◌∙◌, ◌∷◌, ◌≡◌, ◌≢◌, ◌≤◌}
-use Rattle.nap_command.specs.declared.batch.request.Question.TheVariants as question
-use Rattle.nap_command.proofs.RequestLemmas.{apart, cut_once, digits_above, first_cut, name_above, no_cut, parts_of, second_cut}
+use Rattle.nap_command.proofs.Common.{All, All-append, All-cons, All-nil, AllDigits, BegunRequestsAreNone, IsBegun, IsCutShort, IsLine, IsMore, IsNumber, IsRequest, IsWhole, KeepsWithin, List, NeverStarts, Question, RequestLine, RequestsAreCutOneWay, SplitsAtByte, StartsNone, [], ap, append_assoc, arith, cases_lt, digit_from_value, drop, drop_at, if◌then◌else◌, inl, inr, length, length-append, length-take-le, line_for, max, memory_for, most_budget, page_limit, question_name, read_limit, refl, subst, suc, sym, take, take-add, take-append-drop, take-append-le, take_at, zero, ℕ, ◌++◌, ◌+◌, ◌-◌, ◌<◌, ◌==◌, ◌∙◌, ◌∷◌, ◌≡◌, ◌≢◌, ◌≤◌}
+use Rattle.nap_make.proofs.PublicLaws.{no_cut, one_cut}
+
+-- A list is split at the first byte of a value in one way.
+
+pub cut_once : (b : ℕ) (xs f k g l : List ℕ) → SplitsAtByte b xs f k → SplitsAtByte b xs g l → (f ≡ g) × (k ≡ l)
+cut_once b xs f k g l one two = one_cut b f k g l one.first two.first (sym one.joins ∙ two.joins)
+
+-- Names and digits contain no space and no byte below it.
+
+abbrev Above : List ℕ → Type 0
+Above [] = Unit {0}
+Above (x ∷ xs) = (32 < x) × Above xs
+
+pub apart : (b : ℕ) (xs : List ℕ) → b ≤ 32 → Above xs → All (λ x. x ≢ b) xs
+apart b [] least above = All-nil (λ x. x ≢ b)
+apart b (x ∷ xs) least above = All-cons (λ y. y ≢ b) x xs (λ is. omega arith) (apart b xs least above.1)
+
+pub name_above : (c : Question) → Above (question_name c)
+name_above c = grind arith
+
+pub digits_above : (ds : List ℕ) → AllDigits 10 ds → Above ds
+digits_above [] all = tt
+digits_above (d ∷ ds) all = let range = digit_from_value d all.0 in (omega (arith, range.0), digits_above ds all.1)
+
+-- The splits of a request's line.
+
+pub first_cut : (line : List ℕ) (h : RequestLine) (is : IsLine line h) → SplitsAtByte 32 line (question_name h.question) (is.budget_digits ++ 32 ∷ is.size_digits)
+first_cut line h is = record { joins = is.line_is; first = apart 32 (question_name h.question) (omega arith) (name_above h.question) }
+
+pub second_cut : (line : List ℕ) (h : RequestLine) (is : IsLine line h) → SplitsAtByte 32 (is.budget_digits ++ 32 ∷ is.size_digits) is.budget_digits is.size_digits
+second_cut line h is = record {
+  joins = refl;
+  first = apart 32 is.budget_digits (omega arith) (digits_above is.budget_digits is.budget.numeral.1);
+}
+
+-- The parts of a line that was split twice are those of the request.
+pub record Parts (h : RequestLine) (name budget_digits size_digits : List ℕ) : Type 0 where
+  pub name_is : name ≡ question_name h.question
+  pub budget : IsNumber most_budget budget_digits h.budget
+  pub size : IsNumber page_limit size_digits h.size
+
+pub parts_of : (line name numbers budget size : List ℕ) (h : RequestLine) → SplitsAtByte 32 line name numbers → SplitsAtByte 32 numbers budget size → IsLine line h → Parts h name budget size
+parts_of line name numbers budget size h one two is =
+    let a = cut_once 32 line name numbers _ _ one (first_cut line h is) in
+    let b = cut_once 32 numbers budget size _ _ two (rw a.1 (second_cut line h is)) in
+    record { name_is = a.0; budget = rw b.0 is.budget; size = rw b.1 is.size }
+
+-- a line without two spaces is no request's
+pub no_second : (line name numbers : List ℕ) (h : RequestLine) → SplitsAtByte 32 line name numbers → ((front back : List ℕ) → SplitsAtByte 32 numbers front back → ⊥) → IsLine line h → ⊥
+no_second line name numbers h one none is =
+    let a = cut_once 32 line name numbers _ _ one (first_cut line h is) in
+    none is.budget_digits is.size_digits (rw a.1 (second_cut line h is))
+
+pub joined : (line name numbers budget size : List ℕ) (h : RequestLine) → SplitsAtByte 32 line name numbers → SplitsAtByte 32 numbers budget size → Parts h name budget size → IsLine line h
+joined line name numbers budget size h one two parts = record {
+  budget_digits = budget;
+  size_digits = size;
+  line_is = one.joins ∙ ap (λ (xs : List ℕ). xs ++ 32 ∷ numbers) parts.name_is ∙ ap (λ (xs : List ℕ). question_name h.question ++ 32 ∷ xs) two.joins;
+  budget = parts.budget;
+  size = parts.size;
+}
 
 -- No line of a request contains LF.
 
@@ -119,18 +178,9 @@ module _ (bytes : List ℕ) (h : RequestLine) (n : ℕ) (whole : IsWhole bytes h
   pub whole_request : IsRequest (take (n + h.size) bytes) h.question h.budget page_of
   whole_request = record { line = whole.line; says = with_page whole.line h page_of whole.says size_is; bytes_are = asked_is }
 
--- bytes that can't be split at LF contain none, and begin with no request
-pub uncut_open : (buffered : List ℕ) → ((front back : List ℕ) → SplitsAtByte 10 buffered front back → ⊥) → All (λ b. b ≢ 10) buffered
-uncut_open [] none = All-nil (λ b. b ≢ 10)
-uncut_open (x ∷ xs) none =
-    let P : ℕ → Type 0 = λ b. b ≢ 10 in
-    let first : x ≢ 10 = λ is. none [] xs (record { joins = ap (λ (b : ℕ). b ∷ xs) is; first = All-nil P }) in
-    All-cons P x xs first
-    (uncut_open xs (λ front back cut. none (x ∷ front) back (record { joins = ap (λ (ys : List ℕ). x ∷ ys) cut.joins; first = All-cons P x front first cut.first })))
-
 pub begun_requests_are_none : BegunRequestsAreNone
 begun_requests_are_none bytes (inl endless) asked following c budget page is same =
-    no_cut 10 bytes is.line (page ++ following) endless.none (line_cut asked following c budget page is bytes same)
+    no_cut 10 bytes is.line (page ++ following) endless.none (line_cut asked following c budget page is bytes same).joins
 begun_requests_are_none bytes (inr short) asked following c budget page is same = short_front bytes short.0 short.1 asked following c budget page is same
 
 -- bytes that are longer than their line contain its LF
@@ -162,11 +212,11 @@ long_line buffered none long more asked rest c budget page is same =
 -- Bytes are split into requests in one way.
 
 abbrev named : List ℕ → Question
-named (x ∷ y ∷ xs) = if x == 109 then question.Make else (if y == 105 then question.List else (if y == 108 then question.Places else (if y == 97 then question.Canon else question.Check)))
-named _ = question.Check
+named (x ∷ y ∷ xs) = if x == 109 then Question.Make else (if y == 105 then Question.List else (if y == 108 then Question.Places else (if y == 97 then Question.Canon else Question.Check)))
+named _ = Question.Check
 
 named_is : (c : Question) → named (question_name c) ≡ c
-named_is question.Check = refl
+named_is Question.Check = refl
 named_is _ = refl
 
 pub requests_are_cut_one_way : RequestsAreCutOneWay
@@ -186,3 +236,53 @@ requests_are_cut_one_way asked other following rest c d b e page paper one two s
       sym says.budget.value ∙ parts.budget.value,
       front,
     )
+
+-- A read takes no more memory than the request in work and one read need.
+
+-- a list that begins with one that is no longer
+front_of : (xs more ys rest : List ℕ) → xs ++ more ≡ ys ++ rest → length ys ≤ length xs → xs ≡ ys ++ drop (length ys) xs
+front_of xs more ys rest same less =
+    let front : take (length ys) xs ≡ ys = sym (take-append-le (length ys) xs more less) ∙ ap (take (length ys)) same ∙ take_at ys rest (length ys) refl in
+    sym (take-append-drop (length ys) xs) ∙ ap (λ (zs : List ℕ). zs ++ drop (length ys) xs) front
+
+-- Bytes that begin with an incomplete request, and the request that they begin with what follows them.
+module _ (bytes rest asked following : List ℕ) (q : Question) (budget : ℕ) (page : List ℕ) (is : IsRequest asked q budget page) (same : bytes ++ rest ≡ asked ++ following) where
+  shorter : (n : ℕ) → IsMore bytes n → length bytes < length asked
+  shorter n more =
+      elim (cases_lt (length bytes) (length asked)) [
+        | inl less ↦ less
+        | inr long ↦ absurd (begun_requests_are_none bytes (more_begun bytes n more) asked (drop (length asked) bytes) q budget page is (front_of bytes rest asked following same long))
+      ]
+
+  -- all of a page that lacks bytes is the page of the request
+  whole_length : (n : ℕ) → IsCutShort bytes n → length bytes + n ≡ length asked
+  whole_length n short =
+      elim (cases_lt (length rest) n) [
+        | inl few ↦ absurd (short_front (bytes ++ rest) (n - length rest) (still_short bytes rest n short few) asked following q budget page is same)
+        | inr enough ↦
+            let size : length (take n rest) ≡ n = length-take-le n rest enough in
+            let one = made_whole bytes (take n rest) n short size in
+            let cut : asked ++ following ≡ (bytes ++ take n rest) ++ drop n rest =
+            sym same ∙ ap (λ (xs : List ℕ). bytes ++ xs) (sym (take-append-drop n rest)) ∙ sym (append_assoc bytes (take n rest) (drop n rest)) in
+            let all : asked ≡ bytes ++ take n rest = (requests_are_cut_one_way asked (bytes ++ take n rest) following (drop n rest) q short.request.question budget short.request.budget page (short.following ++ take n rest) is one cut).0 in
+            omega (arith, ap length all, length-append bytes (take n rest), size)
+      ]
+
+  needed_within : (n : ℕ) → IsMore bytes n → memory_for (length bytes) n ≤ length asked + read_limit
+  needed_within zero more = omega (arith, shorter zero more)
+  needed_within (suc n) more =
+      omega (arith, shorter (suc n) more, whole_length (suc n) (more.short (λ none. let bad : ⊥ = omega (arith, none) in bad)))
+
+-- the memory that a read takes
+pub takes_within : (bytes more : List ℕ) (n old new : ℕ) → IsMore bytes n → new ≡ max old (memory_for (length bytes) n) → KeepsWithin (bytes ++ more) old new
+takes_within bytes more n old new short is rest asked following q budget page asks same =
+    omega (arith, is, needed_within bytes (more ++ rest) asked following q budget page asks (sym (append_assoc bytes more rest) ∙ same) n short)
+
+-- memory that stays as it is
+pub stays_within : (bytes : List ℕ) (old new : ℕ) → new ≡ old → KeepsWithin bytes old new
+stays_within bytes old new is rest asked following q budget page asks same = omega (arith, is)
+
+-- the memory after more bytes
+pub keeps_on : (bytes more : List ℕ) (old mid new : ℕ) → KeepsWithin bytes old mid → KeepsWithin (bytes ++ more) mid new → KeepsWithin (bytes ++ more) old new
+keeps_on bytes more old mid new early late rest asked following q budget page asks same =
+    omega (arith, late rest asked following q budget page asks same, early (more ++ rest) asked following q budget page asks (sym (append_assoc bytes more rest) ∙ same))

@@ -1,7 +1,5 @@
-use Rattle.nap_command.proofs.Common.{All, All-nil, AnswersRequest, Appends, Appends-nil, Appends-trans, Bool, Buffered, Consumes, Consumes-nil, Consumes-trans, Exchange, FlushedTimes, IsExchange, List, Pipes, Session, StopsIn, StopsServing, [], ap, append-nil, append_assoc, arith, false, flat_map, flush_count, flushed_once, flushes_of, inr, length, length-append, min, refl, requests_limit, subst, suc, sym, true, zero, ℕ, ◌++◌, ◌+◌, ◌-◌, ◌^◌, ◌∙◌, ◌∷◌, ◌≡◌, ◌≢◌}
-use Rattle.nap_command.specs.declared.batch.service.Ended.{Ended}
-use Rattle.nap_command.specs.declared.batch.service.Ended.TheVariants as ended
-use Rattle.nap_command.proofs.SessionLemmas.{answered_more, count_more, each_more, ends_after, read_on}
+use Rattle.nap_command.proofs.Common.{All, All-nil, All-push, AnswersRequest, Appends, Appends-nil, Appends-trans, Bool, Buffered, Consumes, Consumes-nil, Consumes-trans, Ended, Exchange, FlushedTimes, IsExchange, List, Pipes, Session, StopsIn, StopsServing, [], ap, append-nil, append_assoc, arith, false, flat_map, flush_count, flushed_once, flushes_of, inr, length, length-append, min, refl, requests_limit, subst, suc, sym, true, zero, ℕ, ◌++◌, ◌+◌, ◌-◌, ◌^◌, ◌∙◌, ◌∷◌, ◌≡◌, ◌≢◌}
+use Rattle.nap_command.proofs.SessionLemmas.{answered_more, count_more, ends_after, read_on}
 
 -- The number of flushes.
 
@@ -18,19 +16,16 @@ times_of : (xs : List Exchange) (n b m a : ℕ) → length xs ≡ n → a ≡ m 
 times_of xs n b m a size same h = subst (λ (k : ℕ). FlushedTimes k b a) (sym size) (subst (FlushedTimes n b) (sym same) h)
 
 -- the flushes of a run that ends at a failed write or flush
-amid : (w : Bool) (xs : List Exchange) (k n b m a : ℕ) → length xs ≡ n → FlushedTimes n b m → a ≡ flush_count w m → FlushedTimes (flushes_of (ended.Write k) w (length xs)) b a
+amid : (w : Bool) (xs : List Exchange) (k n b m a : ℕ) → length xs ≡ n → FlushedTimes n b m → a ≡ flush_count w m → FlushedTimes (flushes_of (Ended.Write k) w (length xs)) b a
 amid true xs k n b m a size h is = times_of xs n b m a size is h
 amid false xs k n b m a size h is = subst (λ (i : ℕ). FlushedTimes (i + 1) b a) (sym size) (once_more b m a n h is)
 
 -- the flushes of a run that ends in this way
 at_end : (end : Ended) (xs : List Exchange) (n b written : ℕ) (rest part : List ℕ) (mid after : Pipes) → length xs ≡ n → FlushedTimes n b mid.flushes → mid.output_failed ≡ false →
     StopsIn written rest part mid after end → (after.output_failed ≡ false → after.flushes ≡ mid.flushes) → FlushedTimes (flushes_of end after.write_failed (length xs)) b after.flushes
-at_end (ended.Write k) xs n b written rest part mid after size h works (x, following, is, parts, prefix, number, failed, input, flushes) none =
+at_end (Ended.Write k) xs n b written rest part mid after size h works (x, following, is, parts, prefix, number, failed, input, flushes) none =
     amid after.write_failed xs k n b mid.flushes after.flushes size h (flushes works)
-at_end ended.Done xs n b written rest part mid after size h works stops none = times_of xs n b mid.flushes after.flushes size (none (stops.2 ∙ works)) h
-at_end ended.Request xs n b written rest part mid after size h works stops none = times_of xs n b mid.flushes after.flushes size (none (stops.2 ∙ works)) h
-at_end ended.Read xs n b written rest part mid after size h works stops none = times_of xs n b mid.flushes after.flushes size (none (stops.2 ∙ works)) h
-at_end ended.Memory xs n b written rest part mid after size h works stops none = times_of xs n b mid.flushes after.flushes size (none (stops.2 ∙ works)) h
+at_end _ xs n b written rest part mid after size h works stops none = times_of xs n b mid.flushes after.flushes size (none (stops.2 ∙ works)) h
 
 -- n requests were answered, and the buffer has these bytes.
 pub record Going (before now : Pipes) (buffered : List ℕ) (written n : ℕ) : Type 0 where
@@ -67,7 +62,7 @@ one_more_answered before mid after buffered new written m n h k =
     let asked = flat_map (λ (y : Exchange). y.asked) h.xs in
     record {
       xs = h.xs ++ x ∷ [];
-      each = each_more h.xs x h.each k.is_exchange;
+      each = All-push IsExchange h.xs x h.each k.is_exchange;
       read = subst (Consumes before.left after.left) (read_on h.xs x buffered.bytes new.bytes k.bytes k.parts) (Consumes-trans before.left mid.left after.left (asked ++ buffered.bytes) k.bytes h.read k.read);
       sent = subst (Appends before.taken after.taken) (answered_more h.xs x) (Appends-trans before.taken mid.taken after.taken out x.answered h.sent k.sent);
       count = subst (λ (text : List ℕ). m ≡ min (length text) (2 ^ 64 - 1)) (answered_more h.xs x) (count_more out x.answered written m h.count k.count);
@@ -96,7 +91,7 @@ ends before mid after buffered written n end h k =
     }
 
 -- the run ends after the greatest number of requests
-pub ends_full : (before now : Pipes) (buffered : List ℕ) (written n : ℕ) → n ≡ requests_limit → Going before now buffered written n → Session before now ended.Request
+pub ends_full : (before now : Pipes) (buffered : List ℕ) (written n : ℕ) → n ≡ requests_limit → Going before now buffered written n → Session before now Ended.Request
 ends_full before now buffered written n full h = record {
   exchanges = h.xs;
   each = h.each;
@@ -110,7 +105,7 @@ ends_full before now buffered written n full h = record {
 }
 
 -- the run ends before its first request, for lack of memory
-pub ends_unbegun : (p : Pipes) → Session p p ended.Memory
+pub ends_unbegun : (p : Pipes) → Session p p Ended.Memory
 ends_unbegun p = record {
   exchanges = [];
   each = All-nil IsExchange;

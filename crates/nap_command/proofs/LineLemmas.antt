@@ -1,198 +1,109 @@
-use Rattle.nap_command.proofs.Common.{Area, Bool, CharSet, CharSize, Colour, Components, Coordinates, CursorKind, Displacement, Entry, Hand, Ink, List, Mask, None, Option, Pen, Some, TextLook, TextStep, Texture, [], arith, codes, cond, decimal, digit_char, digit_glyph, digits, digits_onto, false, if◌then◌else◌, line, nat_lt, ne_eqb, negsuc, pos, refl, signed_decimal, suc, true, zero, ℕ, ℤ, ⊤, ◌%◌, ◌++◌, ◌+◌, ◌/◌, ◌<◌, ◌==◌, ◌∷◌, ◌≡◌}
-use Rattle.nap_codes.specs.declared.control.TextStep.TheVariants as step
-use Rattle.nap_list.specs.declared.attribute.Area.TheVariants as area
-use Rattle.nap_list.specs.declared.attribute.CharSize.TheVariants as char_size
-use Rattle.nap_list.specs.declared.attribute.Colour.TheVariants as colour
-use Rattle.nap_list.specs.declared.attribute.Pen.TheVariants as pen
-use Rattle.nap_list.specs.declared.entry.Entry.TheVariants as entry
-use Rattle.nap_lines.specs.Lines as text
+use Rattle.nap_command.proofs.Common.{All-head, All-tail, AreNew, Entry, InRange, IsFirstByte, List, None, Some, [], ap, append-nil, append_assoc, arith, decimal, drop, drop_at, eq-eqb, eqb-true, get_or, get_or-append_seam, get_or_append_left, is_byte, length, length-append, line, line_at, lines, lines_at, lines_join, lines_on, refl, subst, suc, sym, take, take_at, ℕ, ◌++◌, ◌+◌, ◌<◌, ◌∙◌, ◌∷◌, ◌≡◌, ◌≤◌}
+use Rattle.nap_make.proofs.PublicLaws.{lines_have_no_ends}
 
--- No line holds the byte that ends one.
+-- How lines are written after their places.
 
-abbrev pub plain : List ℕ → Bool
-plain [] = true
-plain (b ∷ bs) = if b == 10 then false else plain bs
+-- the first line ends at the first byte that ends one
 
-abbrev IsPlain : List ℕ → Type 0
-IsPlain xs = plain xs ≡ true
+module _ (hay : List ℕ) (e : Entry) (rest : List ℕ) (parts : hay ≡ (line e ++ 10 ∷ []) ++ rest) where
+  abbrev size : ℕ
+  size = length (line e)
 
-plain-append : (xs ys : List ℕ) → IsPlain xs → IsPlain ys → IsPlain (xs ++ ys)
-plain-append [] ys first last = last
-plain-append (b ∷ xs) ys first last = at (b == 10) first (plain-append xs ys)
-  where
-    at : (end : Bool) → cond end false (plain xs) ≡ true → (IsPlain xs → IsPlain ys → IsPlain (xs ++ ys)) → cond end false (plain (xs ++ ys)) ≡ true
-    at true first more = let bad : ⊥ = cc in absurd bad
-    at false first more = more first last
+  whole : hay ≡ line e ++ 10 ∷ rest
+  whole = parts ∙ append_assoc (line e) (10 ∷ []) rest
 
--- parts of a line, after those that come first
-abbrev join_after : List ℕ → List (List ℕ) → List ℕ
-join_after first [] = first
-join_after first (x ∷ parts) = join_after (first ++ x) parts
+  ends_there : get_or hay size 0 ≡ 10
+  ends_there = ap (λ (bs : List ℕ). get_or bs size 0) whole ∙ get_or-append_seam (line e) 10 rest 0
 
-abbrev ArePlain : List (List ℕ) → Type 0
-ArePlain [] = ⊤
-ArePlain (x ∷ parts) = IsPlain x × ArePlain parts
+  within : size < length hay
+  within = omega (arith, ap length whole, length-append (line e) (10 ∷ rest))
 
-joined : (first : List ℕ) (parts : List (List ℕ)) → IsPlain first → ArePlain parts → IsPlain (join_after first parts)
-joined first [] is others = is
-joined first (x ∷ parts) is others = joined (first ++ x) parts (plain-append first x is others.0) others.1
+  pub first_end : InRange e → (k : ℕ) → IsFirstByte (is_byte 10) hay (Some k) → k ≡ size
+  first_end fits k h =
+      let ends : get_or hay k 0 ≡ 10 = eqb-true (get_or hay k 0) 10 h.1 in
+      let low : ¬ (k < size) = λ less. lines_have_no_ends e fits k 0 less (sym (get_or_append_left (line e) (10 ∷ rest) 0 k less) ∙ sym (ap (λ (bs : List ℕ). get_or bs k 0) whole) ∙ ends) in
+      let high : ¬ (size < k) = λ less. h.0.before size (omega arith) less (eq-eqb (get_or hay size 0) 10 ends_there) in
+      omega (arith, low, high)
 
--- numbers
+  pub some_end : IsFirstByte (is_byte 10) hay None → ⊥
+  some_end none = none size (omega arith) within (eq-eqb (get_or hay size 0) 10 ends_there)
 
-later_plain : (b : ℕ) (bs : List ℕ) → 10 < b → IsPlain bs → IsPlain (b ∷ bs)
-later_plain b bs later rest = rw (ne_eqb b 10 (λ (is : b ≡ 10). omega (arith, later, is))) rest
+-- Lines that are left to write.
 
-glyph_plain : (upper : Bool) (d : ℕ) (acc : List ℕ) → IsPlain acc → IsPlain (digit_glyph upper d ∷ acc)
-glyph_plain upper d acc rest = at (nat_lt d 10) upper
-  where
-    at : (low upper : Bool) → IsPlain (cond low (48 + d) (cond upper (55 + d) (87 + d)) ∷ acc)
-    at true upper = later_plain (48 + d) acc (omega arith) rest
-    at false true = later_plain (55 + d) acc (omega arith) rest
-    at false false = later_plain (87 + d) acc (omega arith) rest
+-- how many bytes they are
+left_bytes : (known : ℕ) (all : List ℕ) (es : List Entry) → AreNew known all es → length all ≡ known + length (lines es)
+left_bytes known all es k = omega (arith, ap length k.is, ap length (lines_join k.before es), length-append (lines k.before) (lines es), k.size)
 
-onto_plain : (k base : ℕ) (upper : Bool) (n : ℕ) (acc : List ℕ) → IsPlain acc → IsPlain (digits_onto k base upper n acc)
-onto_plain zero base upper n acc rest = rest
-onto_plain (suc k) base upper n acc rest =
-    at (n / base == 0) (glyph_plain upper (n % base) acc rest) (onto_plain k base upper (n / base) (digit_glyph upper (n % base) ∷ acc) (glyph_plain upper (n % base) acc rest))
-  where
-    at : (last : Bool) → IsPlain (digit_glyph upper (n % base) ∷ acc) → IsPlain (digits_onto k base upper (n / base) (digit_glyph upper (n % base) ∷ acc)) →
-        IsPlain (cond last (digit_glyph upper (n % base) ∷ acc) (digits_onto k base upper (n / base) (digit_glyph upper (n % base) ∷ acc)))
-    at true one more = one
-    at false one more = more
+-- none
+pub none_left : (known : ℕ) (all : List ℕ) (es : List Entry) → AreNew known all es → length all ≤ known → es ≡ []
+none_left known all [] k most = refl
+none_left known all (e ∷ es) k most =
+    absurd (omega (arith, left_bytes known all (e ∷ es) k, most, length-append (line e ++ 10 ∷ []) (lines es), length-append (line e) (10 ∷ [])))
 
-decimal_plain : (n : ℕ) → IsPlain (decimal n)
-unfolding digits
-decimal_plain n = onto_plain 64 10 false n [] refl
+pub all_known : (known : ℕ) (all : List ℕ) (es : List Entry) → AreNew known all es → length all ≤ known → known ≡ length all
+all_known known all es k most = omega (arith, left_bytes known all es k, most)
 
-signed_plain : (z : ℤ) → IsPlain (signed_decimal z)
-signed_plain (pos n) = decimal_plain n
-signed_plain (negsuc n) = decimal_plain (suc n)
+rest_of : (known : ℕ) (all : List ℕ) (es : List Entry) → AreNew known all es → drop known all ≡ lines es
+rest_of known all es k =
+    ap (λ (n : ℕ). drop n all) k.size ∙ ap (drop (length (lines k.before))) (k.is ∙ lines_join k.before es) ∙ drop_at (lines k.before) (lines es) (length (lines k.before)) refl
 
-hex_plain : (d : ℕ) (acc : List ℕ) → IsPlain acc → IsPlain (digit_char d ∷ acc)
-hex_plain d acc rest = at (nat_lt d 10)
-  where
-    at : (low : Bool) → IsPlain (cond low (48 + d) (87 + d) ∷ acc)
-    at true = later_plain (48 + d) acc (omega arith) rest
-    at false = later_plain (87 + d) acc (omega arith) rest
+one_known : (known : ℕ) (all : List ℕ) (e : Entry) (es : List Entry) → AreNew known all (e ∷ es) → AreNew (known + (length (line e) + 1)) all es
+one_known known all e es k = record {
+  before = k.before ++ e ∷ [];
+  is = k.is ∙ ap lines (sym (append_assoc k.before (e ∷ []) es));
+  size =
+      omega (
+        arith,
+        k.size,
+        ap length (lines_join k.before (e ∷ [])),
+        length-append (lines k.before) (lines (e ∷ [])),
+        length-append (line e ++ 10 ∷ []) [],
+        length-append (line e) (10 ∷ []),
+      );
+  in_range = All-tail InRange e es k.in_range;
+}
 
-code_plain : (code : ℕ) → IsPlain (text.code_text code)
-code_plain code = hex_plain (code / 16) (digit_char (code % 16) ∷ []) (hex_plain (code % 16) [] refl)
+-- What is left then, where a line was written.
+pub record OneLess (known len : ℕ) (all : List ℕ) (at step : ℕ) (left : List Entry) (part : List ℕ) : Type 0 where
+  pub further : List Entry
+  pub new : AreNew (known + len) all further
+  pub count : length left ≡ length further + 1
+  pub text : (old : List ℕ) → ((old ++ (decimal at ++ 32 ∷ [])) ++ part) ++ lines_on (at + step) step further ≡ old ++ lines_on at step left
 
--- fields
+pub one_less : (known len : ℕ) (all : List ℕ) (at step : ℕ) (rest part : List ℕ) → rest ≡ drop known all → part ≡ take len rest → known < length all →
+    ((e : Entry) (more : List ℕ) → InRange e → rest ≡ (line e ++ 10 ∷ []) ++ more → len ≡ length (line e) + 1) → (left : List Entry) → AreNew known all left → OneLess known len all at step left part
+one_less known len all at step rest part is cut less first [] k = absurd (omega (arith, left_bytes known all [] k, less))
+one_less known len all at step rest part is cut less first (e ∷ left) k =
+    let parts : rest ≡ (line e ++ 10 ∷ []) ++ lines left = is ∙ rest_of known all (e ∷ left) k in
+    let size : len ≡ length (line e) + 1 = first e (lines left) (All-head InRange e left k.in_range) parts in
+    let long : len ≡ length (line e ++ 10 ∷ []) = omega (arith, size, length-append (line e) (10 ∷ [])) in
+    let one : part ≡ line e ++ 10 ∷ [] = cut ∙ ap (take len) parts ∙ take_at (line e ++ 10 ∷ []) (lines left) len (sym long) in
+    record {
+      further = left;
+      new = subst (λ (n : ℕ). AreNew (known + n) all left) (sym size) (one_known known all e left k);
+      count = omega arith;
+      text = λ old.
+          ap (λ (bs : List ℕ). ((old ++ (decimal at ++ 32 ∷ [])) ++ bs) ++ lines_on (at + step) step left) one
+          ∙ ap (λ (bs : List ℕ). bs ++ lines_on (at + step) step left)
+          (append_assoc old (decimal at ++ 32 ∷ []) (line e ++ 10 ∷ []) ∙ ap (λ (bs : List ℕ). old ++ bs) (append_assoc (decimal at) (32 ∷ []) (line e ++ 10 ∷ [])))
+          ∙ append_assoc old (line_at at e) (lines_on (at + step) step left);
+    }
 
-point_plain : (p : Coordinates) → IsPlain (text.point_text p)
-point_plain p = joined (decimal p.x) (codes "," ∷ decimal p.y ∷ []) (decimal_plain p.x) (refl, (decimal_plain p.y, tt))
+-- So far lines were written: what was there and is left is what was there at first, with all.
+abbrev pub Goes : ℕ → List ℕ → ℕ → ℕ → List ℕ → ℕ → ℕ → List ℕ → ℕ → ℕ → Type 0
+Goes known₀ text₀ count₀ place all step known text count at =
+    (es : List Entry) → AreNew known₀ all es → (left : List Entry) × AreNew known all left × (text ++ lines_on at step left ≡ text₀ ++ lines_on place step es) × (count + length left ≡ count₀ + length es)
 
-move_plain : (m : Displacement) → IsPlain (text.move_text m)
-move_plain m = joined (signed_decimal m.x) (codes "," ∷ signed_decimal m.y ∷ []) (signed_plain m.x) (refl, (signed_plain m.y, tt))
+-- entries of which all lines have one place
+pub all_alike : (place : ℕ) (es : List Entry) → lines_on place 0 es ≡ lines_at place es
+all_alike place [] = refl
+all_alike place (e ∷ es) =
+    ap (λ (bs : List ℕ). line_at place e ++ bs) (let e' : place + 0 ≡ place = omega arith in ap (λ (n : ℕ). lines_on n 0 es) e' ∙ all_alike place es)
 
-points_plain : (points : List Coordinates) → IsPlain (text.points_text points)
-points_plain [] = refl
-points_plain (p ∷ points) = plain-append (codes " " ++ text.point_text p) (text.points_text points) (point_plain p) (points_plain points)
-
-grb_plain : (c : Components) → IsPlain (text.grb_text c)
-grb_plain c = joined (decimal c.g) (codes "," ∷ decimal c.r ∷ codes "," ∷ decimal c.b ∷ []) (decimal_plain c.g) (refl, (decimal_plain c.r, (refl, (decimal_plain c.b, tt))))
-
-colour_plain : (c : Colour) → IsPlain (text.colour_text c)
-colour_plain (colour.Own origin) = grind arith
-colour_plain (colour.Direct grb) = grb_plain grb
-colour_plain (colour.Front addr) = decimal_plain addr
-colour_plain (colour.Pair front back) = joined (codes "pair:") (decimal front ∷ codes "," ∷ decimal back ∷ []) refl (decimal_plain front, (refl, (decimal_plain back, tt)))
-colour_plain (colour.ByReset preset) = grind arith
-
-pen_plain : (p : Pen) → IsPlain (text.pen_text p)
-pen_plain pen.Start = refl
-pen_plain (pen.At p) = point_plain p
-pen_plain pen.After = refl
-
-mask_size_plain : (m : Option Displacement) → IsPlain (text.mask_size_text m)
-mask_size_plain None = refl
-mask_size_plain (Some m) = move_plain m
-
-texture_plain : (t : Texture) → IsPlain (text.texture_text t)
-texture_plain t = joined (decimal t.word) (codes "/" ∷ text.mask_size_text t.mask ∷ []) (decimal_plain t.word) (refl, (mask_size_plain t.mask, tt))
-
-ink_plain : (ink : Ink) → IsPlain (text.ink_text ink)
-ink_plain ink =
-    joined (codes "pel=") (text.move_text ink.pel ∷ codes " colour=" ∷ text.colour_text ink.colour ∷ codes " texture=" ∷ text.texture_text ink.texture ∷ []) refl (move_plain ink.pel, (refl, (colour_plain ink.colour, (refl, (texture_plain ink.texture, tt)))))
-
-size_plain : (s : CharSize) → IsPlain (text.size_text s)
-size_plain (char_size.Named size) = grind arith
-size_plain (char_size.Given m) = move_plain m
-
-flag_plain : (on : Bool) (letter : List ℕ) → IsPlain letter → IsPlain (text.flag_text on letter)
-flag_plain true letter is = is
-flag_plain false letter is = refl
-
-flags_plain : (look : TextLook) → IsPlain (text.flags_text look)
-flags_plain look =
-    joined (text.flag_text look.reverse (codes "r")) (text.flag_text look.underline (codes "u") ∷ text.flag_text look.wrap (codes "w") ∷ text.flag_text look.scroll (codes "s") ∷ []) (flag_plain look.reverse (codes "r") refl) (flag_plain look.underline (codes "u") refl, (flag_plain look.wrap (codes "w") refl, (flag_plain look.scroll (codes "s") refl, tt)))
-
-look_plain : (look : TextLook) → IsPlain (text.look_text look)
-look_plain look =
-    joined (decimal look.first) (codes "," ∷ decimal look.second ∷ codes "/" ∷ text.size_text look.size ∷ codes "/" ∷ text.flags_text look ∷ []) (decimal_plain look.first) (refl, (decimal_plain look.second, (refl, (size_plain look.size, (refl, (flags_plain look, tt))))))
-
-hand_plain : (hand : Hand) → IsPlain (text.hand_text hand)
-hand_plain hand =
-    joined (codes "pen=") (text.pen_text hand.pen ∷ codes " colour=" ∷ text.colour_text hand.colour ∷ codes " text=" ∷ text.look_text hand.text ∷ []) refl (pen_plain hand.pen, (refl, (colour_plain hand.colour, (refl, (look_plain hand.text, tt)))))
-
-fill_plain : (filled : Bool) → IsPlain (text.fill_text filled)
-fill_plain true = refl
-fill_plain false = refl
-
-set_plain : (set : CharSet) → IsPlain (text.set_text set)
-set_plain set = grind arith
-
-step_plain : (s : TextStep) → IsPlain (text.step_text s)
-step_plain step.Apb = refl
-step_plain step.Apf = refl
-step_plain step.Apd = refl
-step_plain step.Apu = refl
-step_plain step.Apr = refl
-step_plain step.Aph = refl
-step_plain (step.Aps row column) = joined (codes "APS ") (text.code_text row ∷ codes " " ∷ text.code_text column ∷ []) refl (code_plain row, (refl, (code_plain column, tt)))
-
-area_plain : (a : Area) → IsPlain (text.area_text a)
-area_plain area.Whole = refl
-area_plain (area.Part from to) = joined (text.point_text from) (codes " " ∷ text.point_text to ∷ []) (point_plain from) (refl, (point_plain to, tt))
-
-mark_plain : (on : Bool) → IsPlain (text.mark_text on)
-mark_plain true = refl
-mark_plain false = refl
-
-cursor_plain : (kind : CursorKind) → IsPlain (text.cursor_text kind)
-cursor_plain kind = grind arith
-
-mask_plain : (m : Mask) → IsPlain (text.mask_text m)
-mask_plain m = grind arith
-
-pub line_plain : (e : Entry) → plain (line e) ≡ true
-line_plain (entry.Point at pel colour) =
-    joined (codes "POINT ") (text.point_text at ∷ codes " pel=" ∷ text.move_text pel ∷ codes " colour=" ∷ text.colour_text colour ∷ []) refl (point_plain at, (refl, (move_plain pel, (refl, (colour_plain colour, tt)))))
-line_plain (entry.Line from to ink) =
-    joined (codes "LINE ") (text.point_text from ∷ codes " " ∷ text.point_text to ∷ codes " " ∷ text.ink_text ink ∷ []) refl (point_plain from, (refl, (point_plain to, (refl, (ink_plain ink, tt)))))
-line_plain (entry.Arc filled points ink) =
-    joined (codes "ARC-") (text.fill_text filled ∷ text.points_text points ∷ codes " " ∷ text.ink_text ink ∷ []) refl (fill_plain filled, (points_plain points, (refl, (ink_plain ink, tt))))
-line_plain (entry.Rect filled from to ink) =
-    joined (codes "RECT-") (text.fill_text filled ∷ codes " " ∷ text.point_text from ∷ codes " " ∷ text.point_text to ∷ codes " " ∷ text.ink_text ink ∷ []) refl (fill_plain filled, (refl, (point_plain from, (refl, (point_plain to, (refl, (ink_plain ink, tt)))))))
-line_plain (entry.Poly filled points ink) =
-    joined (codes "POLY-") (text.fill_text filled ∷ text.points_text points ∷ codes " " ∷ text.ink_text ink ∷ []) refl (fill_plain filled, (points_plain points, (refl, (ink_plain ink, tt))))
-line_plain (entry.Char set code hand) =
-    joined (codes "CHAR ") (text.set_text set ∷ codes " " ∷ text.code_text code ∷ codes " " ∷ text.hand_text hand ∷ []) refl (set_plain set, (refl, (code_plain code, (refl, (hand_plain hand, tt)))))
-line_plain (entry.TextMove step hand) = joined (codes "MOVE ") (text.step_text step ∷ codes " " ∷ text.hand_text hand ∷ []) refl (step_plain step, (refl, (hand_plain hand, tt)))
-line_plain (entry.ToEol hand) = hand_plain hand
-line_plain (entry.Map addr grb) = joined (codes "MAP ") (decimal addr ∷ codes " " ∷ text.grb_text grb ∷ []) refl (decimal_plain addr, (refl, (grb_plain grb, tt)))
-line_plain (entry.Blink addr on off delay colour) =
-    joined (codes "BLINK ") (decimal addr ∷ codes " " ∷ decimal on ∷ codes "," ∷ decimal off ∷ codes "," ∷ decimal delay ∷ codes " colour=" ∷ text.colour_text colour ∷ []) refl (decimal_plain addr, (refl, (decimal_plain on, (refl, (decimal_plain off, (refl, (decimal_plain delay, (refl, (colour_plain colour, tt)))))))))
-line_plain (entry.BlinkEnd colour) = colour_plain colour
-line_plain (entry.BlinkMark on colour) = joined (codes "BLINK-") (text.mark_text on ∷ codes " colour=" ∷ text.colour_text colour ∷ []) refl (mark_plain on, (refl, (colour_plain colour, tt)))
-line_plain (entry.Wait tenths) = decimal_plain tenths
-line_plain entry.Bell = refl
-line_plain (entry.Cursor kind) = cursor_plain kind
-line_plain (entry.Field area pen) = joined (codes "FIELD ") (text.area_text area ∷ codes " pen=" ∷ text.pen_text pen ∷ []) refl (area_plain area, (refl, (pen_plain pen, tt)))
-line_plain (entry.Reset first second pen) =
-    joined (codes "RESET ") (decimal first ∷ codes " " ∷ decimal second ∷ codes " pen=" ∷ text.pen_text pen ∷ []) refl (decimal_plain first, (refl, (decimal_plain second, (refl, (pen_plain pen, tt)))))
-line_plain (entry.Clear pen) = pen_plain pen
-line_plain (entry.GlyphStart code) = code_plain code
-line_plain (entry.MaskStart mask) = mask_plain mask
-line_plain entry.DefEnd = refl
+-- one more
+pub one_on : (place : ℕ) (es : List Entry) (e : Entry) → lines_on place 1 (es ++ e ∷ []) ≡ lines_on place 1 es ++ line_at (place + length es) e
+one_on place [] e = append-nil (line_at place e) ∙ (let same : place ≡ place + 0 = omega arith in ap (λ (n : ℕ). line_at n e) same)
+one_on place (x ∷ es) e =
+    ap (λ (bs : List ℕ). line_at place x ++ bs) (one_on (place + 1) es e)
+    ∙ sym (append_assoc (line_at place x) (lines_on (place + 1) 1 es) (line_at (place + 1 + length es) e))
+    ∙ (let same : place + 1 + length es ≡ place + suc (length es) = omega arith in ap (λ (n : ℕ). lines_on place 1 (x ∷ es) ++ line_at n e) same)

@@ -1,50 +1,17 @@
-use Rattle.nap_command.proofs.Common.{Appends, Appends-kept, Bool, BreaksWithin, BrokeLines, Cause, Closes, EndsListed, EndsSo, Err, Fails, Finds, FlushedOnce, Grows, IsPartly, IsReadTwice, IsReadWhole, IsStream, IsStreamRefusal, Keeps, List, MatchResult, NeverWants, None, Ok, Option, Printing, Reading, ReadsTwice, RefusedBy, Result, SendsPart, TakesText, TookLines, TookPrefix, TwiceFault, [], ap, append-nil, append_assoc, arith, cause_of, device, ended_so, false, flush_count, grows_none, inl, inr, length, lines, lines_join, list_of, means, memory, passes_more, refl, sending, sending_by, start, stream, subst, suc, sym, take, take-append_seam, true, zero, ℕ, ◌++◌, ◌||◌, ◌∙◌, ◌∷◌, ◌≡◌, ◌≢◌}
-use Rattle.nap_list.specs.declared.count_sink.CountSink.{CountSink}
-use Rattle.nap_list.specs.declared.device.outlet.Outlet as outlet
-use Rattle.nap_list.specs.declared.entry.Entry.{Entry}
-use Rattle.nap_list.specs.declared.sink.Sink.{Ghosts}
-use Rattle.nap_reader.specs.declared.fault.Fault.{Fault}
-use Rattle.nap_reader.specs.declared.fault.Fault.TheVariants as fault
-use Rattle.nap_reader.specs.declared.fault.Refusal.{Refusal}
-use Rattle.nap_reader.specs.declared.twice.TwiceFault.TheVariants as twice_fault
-use Rattle.nap_command.specs.declared.answer.Verdict.{Verdict}
-use Rattle.nap_command.specs.declared.answer.Verdict.TheVariants as verdict
-use Rattle.nap_command.specs.declared.command.Action.TheVariants as action
-use Rattle.nap_command.specs.declared.command.Command.{Command}
-use Rattle.nap_command.specs.declared.failure.Failure.{Failure}
-use Rattle.nap_command.specs.declared.failure.Failure.TheVariants as failure
+use Rattle.nap_command.proofs.Common.{Action, Appends, Appends-kept, Bool, BrokeLines, Cause, Closes, Command, CountSink, EndsListed, EndsSo, Entry, Err, Fails, Failure, Finds, FlushedOnce, Ghosts, Grows, IsPartly, IsReadTwice, IsReadWhole, IsStream, IsStreamRefusal, Keeps, List, MatchResult, NeverWants, None, Ok, Printing, Reading, ReadsTwice, Refusal, Result, SendsPart, TookLines, TookPrefix, TwiceFault, Verdict, [], ap, append-nil, append_assoc, arith, cause_of, device, ended_so, false, flush_count, grows_none, inl, inr, length, lines, lines_join, list_of, means, memory, passes_more, refl, sending, sending_by, start, stream, subst, sym, take, take-append_seam, true, ℕ, ◌++◌, ◌||◌, ◌∙◌, ◌∷◌, ◌≡◌, ◌≢◌}
+use Rattle.nap_list.specs.declared.device.Outlet as outlet
+use Rattle.nap_command.proofs.AnswerLemmas.{refusal_by}
 
 -- What `list` prints of a page that it reads twice.
 
 prefix_taken : (q left whole : List ℕ) → whole ≡ q ++ left → take (length q) whole ≡ q
 prefix_taken q left whole is = ap (take (length q)) is ∙ take-append_seam q left
 
--- a page that was counted is refused for this reason
-refusal_by : {S : Type 0} (g : Ghosts S) (s : S) (sound : (t : S) → g.failed t ≡ false) (c : Command) (page : List ℕ) (f : Fault) (place : ℕ) →
-    RefusedBy g s c.budget page (record { fault = f; place = place }) (cause_of f) → IsStreamRefusal c page (record { fault = f; place = place })
-refusal_by g s sound c page fault.Memory place h = record { refused = λ no. absurd (no refl); memory = λ _. h.0 }
-refusal_by g s sound c page fault.Sink place (h, (t, failed, took)) = cc (sound t)
-refusal_by g s sound c page f place h = record { refused = λ _. h; memory = λ is. let bad : ⊥ = cc in absurd bad }
-
-pub list_refuses : (c : Command) (p page : List ℕ) (seen : Reading) (r : Refusal) → c.action ≡ action.List → IsReadWhole seen p → IsStream c.hex p page → IsStreamRefusal c page r →
-    Fails c p seen (failure.Refused r)
+pub list_refuses : (c : Command) (p page : List ℕ) (seen : Reading) (r : Refusal) → c.action ≡ Action.List → IsReadWhole seen p → IsStream c.hex p page → IsStreamRefusal c page r →
+    Fails c p seen (Failure.Refused r)
 list_refuses c p page seen r list whole streams refusal = (whole, (page, streams, ((λ other. let bad : ⊥ = cc (list, other) in bad), refusal)))
 
--- the output failed after the command had failed
-pub listed_after : (c : Command) (p : List ℕ) (seen : Reading) (before : Failure) (old new : Option (List ℕ)) (b : Bool) (f : Failure) → Fails c p seen before →
-    TakesText old new [] (Err f) → b ≡ true → (q : List ℕ) × Appends old new q × EndsListed c p seen q b (Err f)
-listed_after c p seen before old new b (failure.Write n) h k e = (
-  [],
-  subst (Appends old new) (nothing n) k.1,
-  subst (λ (b : Bool). EndsListed c p seen [] b (Err (failure.Write n))) (sym e) (omega (arith, k.0), inr (before, h, refl)),
-)
-  where
-    nothing : (n : ℕ) → let none : List ℕ = [] in take n none ≡ none
-    nothing zero = refl
-    nothing (suc n) = refl
-listed_after c p seen before old new b _ h k e = absurd k
-
-module _ {O : Type 0} (o : outlet.Ghosts O) (w : O) (works : o.failed w ≡ false) (c : Command) (list : c.action ≡ action.List) (page : List ℕ) (space : ℕ) where
+module _ {O : Type 0} (o : outlet.Ghosts O) (w : O) (works : o.failed w ≡ false) (c : Command) (list : c.action ≡ Action.List) (page : List ℕ) (space : ℕ) where
   abbrev begun : Printing O
   begun = record { outlet = w; written = 0; buffered = []; state = start; space = space }
 
@@ -56,36 +23,36 @@ module _ {O : Type 0} (o : outlet.Ghosts O) (w : O) (works : o.failed w ≡ fals
   pub record Leaves (u : O) (n : ℕ) (read : Result CountSink TwiceFault) : Type 0 where
     pub q : List ℕ
     pub grows : Grows (sending o w 0) q (sending o u n)
-    pub partly : ForPage (λ p seen. IsPartly c p seen q)
+    pub partly : ForPage (λ p seen. IsPartly (Finds c p seen) (Fails c p seen) q)
     pub ends : o.failed u ≡ false → ForPage (λ p seen. EndsListed c p seen q false (ended_so read))
 
   -- the page is refused, and nothing was printed
-  none_printed : (u : O) (n : ℕ) (r : Refusal) → u ≡ w → n ≡ 0 → IsStreamRefusal c page r → Leaves u n (Err (twice_fault.Refused r))
+  none_printed : (u : O) (n : ℕ) (r : Refusal) → u ≡ w → n ≡ 0 → IsStreamRefusal c page r → Leaves u n (Err (TwiceFault.Refused r))
   none_printed u n r output written refusal =
-      let fails : ForPage (λ p seen. Fails c p seen (failure.Refused r)) = λ p seen whole streams. list_refuses c p page seen r list whole streams refusal in
+      let fails : ForPage (λ p seen. Fails c p seen (Failure.Refused r)) = λ p seen whole streams. list_refuses c p page seen r list whole streams refusal in
       record {
         q = [];
         grows = rw (output, written) (grows_none (sending o w 0));
-        partly = λ p seen whole streams. inr (failure.Refused r, fails p seen whole streams, refl);
+        partly = λ p seen whole streams. inr (Failure.Refused r, fails p seen whole streams, refl);
         ends = λ clear p seen whole streams. (refl, fails p seen whole streams);
       }
 
   -- the page is accepted, and nothing was printed for lack of memory
-  none_begun : (u : O) (n : ℕ) → u ≡ w → n ≡ 0 → Leaves u n (Err twice_fault.Memory)
+  none_begun : (u : O) (n : ℕ) → u ≡ w → n ≡ 0 → Leaves u n (Err TwiceFault.Memory)
   none_begun u n output written = record {
     q = [];
     grows = rw (output, written) (grows_none (sending o w 0));
-    partly = λ p seen whole streams. inr (failure.Memory, whole.none_failed, refl);
+    partly = λ p seen whole streams. inr (Failure.Memory, whole.none_failed, refl);
     ends = λ clear p seen whole streams. (refl, whole.none_failed);
   }
 
   module _ (accepted : (means c.budget page).refusal ≡ None) (u : O) (n : ℕ) (v : Printing O) where
-    finds : ForPage (λ p seen. Finds c p seen (lines (list_of c.budget page)) verdict.Accepted)
+    finds : ForPage (λ p seen. Finds c p seen (lines (list_of c.budget page)) Verdict.Accepted)
     finds p seen whole is = (whole, (page, is, rw list (accepted, refl)))
 
-    partly_of : (q left : List ℕ) → lines (list_of c.budget page) ≡ q ++ left → ForPage (λ p seen. IsPartly c p seen q)
+    partly_of : (q left : List ℕ) → lines (list_of c.budget page) ≡ q ++ left → ForPage (λ p seen. IsPartly (Finds c p seen) (Fails c p seen) q)
     partly_of q left is p seen whole streams =
-        inl (lines (list_of c.budget page), verdict.Accepted, finds p seen whole streams, prefix_taken q left (lines (list_of c.budget page)) is)
+        inl (lines (list_of c.budget page), Verdict.Accepted, finds p seen whole streams, prefix_taken q left (lines (list_of c.budget page)) is)
 
     all_printed : (t : CountSink) → TookLines o begun (list_of c.budget page) v → Closes o v u n → Leaves u n (Ok t)
     all_printed t took closes =
@@ -97,12 +64,12 @@ module _ {O : Type 0} (o : outlet.Ghosts O) (w : O) (works : o.failed w ≡ fals
           partly = partly_of all.sent closes.left parts;
           ends = λ clear p seen whole streams.
               let same = parts ∙ ap (λ (left : List ℕ). all.sent ++ left) (closes.all clear) ∙ append-nil all.sent in
-              subst (λ (q : List ℕ). Finds c p seen q verdict.Accepted) same (finds p seen whole streams);
+              subst (λ (q : List ℕ). Finds c p seen q Verdict.Accepted) same (finds p seen whole streams);
         }
 
     -- a prefix of the lines was printed, and then a write failed
     some_printed : (r : Refusal) (first rest : List Entry) (left : List ℕ) → u ≡ v.outlet → n ≡ v.written → list_of c.budget page ≡ first ++ rest → SendsPart (sending o w 0) [] (lines first) left (sending_by o v) →
-        o.failed v.outlet ≡ true → Leaves u n (Err (twice_fault.Refused r))
+        o.failed v.outlet ≡ true → Leaves u n (Err (TwiceFault.Refused r))
     some_printed r first rest left output written entries passes failed =
         let parts : lines (list_of c.budget page) ≡ passes.sent ++ (left ++ lines rest) =
         ap lines entries ∙ lines_join first rest ∙ ap (λ (bytes : List ℕ). bytes ++ lines rest) passes.parts ∙ append_assoc passes.sent left (lines rest) in
@@ -119,7 +86,7 @@ module _ {O : Type 0} (o : outlet.Ghosts O) (w : O) (works : o.failed w ≡ fals
       (dry : NeverWants k begun)
       (u : O) (n : ℕ) (v : Printing O) where
     breaks : (accepted : (means c.budget page).refusal ≡ None) (r : Refusal) (cause : Cause) → cause_of r.fault ≡ cause → cause ≢ memory →
-        TookPrefix k begun [] (means c.budget page).entries v cause → u ≡ v.outlet → n ≡ v.written → Leaves u n (Err (twice_fault.Refused r))
+        TookPrefix k begun [] (means c.budget page).entries v cause → u ≡ v.outlet → n ≡ v.written → Leaves u n (Err (TwiceFault.Refused r))
     breaks accepted r stream is lacks part output written = absurd part
     breaks accepted r memory is lacks part output written = absurd (lacks refl)
     breaks accepted r device is lacks (inl (failed, part)) output written = let bad : ⊥ = cc in absurd bad
@@ -129,11 +96,11 @@ module _ {O : Type 0} (o : outlet.Ghosts O) (w : O) (works : o.failed w ≡ fals
 
     by : (read : Result CountSink TwiceFault) → ReadsTwice g k s begun c.budget page v read → MatchResult read (λ _. Closes o v u n) (λ _. (u ≡ v.outlet) × (n ≡ v.written)) → Leaves u n read
     by (Ok t) (accepted, counted, took) closes = all_printed accepted u n v t (took_is v (means c.budget page).entries took) closes
-    by (Err (twice_fault.Refused r)) (inl (refused, same)) (output, written) =
+    by (Err (TwiceFault.Refused r)) (inl (refused, same)) (output, written) =
         none_printed u n r (output ∙ ap (λ (v : Printing O). v.outlet) same) (written ∙ ap (λ (v : Printing O). v.written) same) (refusal_by g s sound c page r.fault r.place refused)
-    by (Err (twice_fault.Refused r)) (inr (accepted, breaks_off)) (output, written) =
+    by (Err (TwiceFault.Refused r)) (inr (accepted, breaks_off)) (output, written) =
         breaks accepted r (cause_of r.fault) refl (breaks_off.lacks dry) breaks_off.broke.part output written
-    by (Err twice_fault.Memory) (accepted, same) (output, written) =
+    by (Err TwiceFault.Memory) (accepted, same) (output, written) =
         none_begun u n (output ∙ ap (λ (v : Printing O). v.outlet) same) (written ∙ ap (λ (v : Printing O). v.written) same)
 
     pub leaves : (printer : Printing O) → printer ≡ begun → (bytes : List ℕ) → bytes ≡ page → (read : Result CountSink TwiceFault) → IsReadTwice g k s printer c.budget bytes v read →

@@ -1,15 +1,11 @@
-use Rattle.nap_command.proofs.Common.{AddsAhead, Ahead, AllocError, Answers, AnswersBy, AreNew, BreaksInRun, BreaksWithin, Entry, Err, Fault, Ghosts, HasRead, IfOk, IsPlaced, LineSinkState, List, None, Ok, Option, Outcome, PlacesText, Reader, Refusal, Result, Some, StopsAt, StopsBy, TakesLinesOf, [], ap, append-nil, append_assoc, arith, begun, begun_comes_first, budget_of, bytes_ahead, came_with, cause_of, drop, drop-append-le, drop_all, drop_at, ended_by, entries_added, false, fed_breaks_among, get_or, get_or_append_left, inr, left_of, length, length-append, length-drop, line, line_at, lines, lines_at, lines_on, means, more_bytes_keep_entries, more_bytes_keep_refusal, places, places_before, refl, refusal_of, sink_of, start, step_of, stream, subst, suc, sym, take, take-add, take-append-drop, take-append-le, take-take, take_all, true, zero, ℕ, ◌++◌, ◌+◌, ◌-◌, ◌<◌, ◌∙◌, ◌∷◌, ◌≡◌, ◌≢◌, ◌≤◌}
-use Rattle.nap_reader.specs.declared.fault.Fault.TheVariants as fault
-use Rattle.nap_reader.specs.declared.reader.ahead.Ahead.TheVariants as ahead
-use Rattle.nap_command.proofs.WriteLemmas.{all_alike, one_on}
+use Rattle.nap_command.proofs.Common.{AddsAhead, Ahead, All-drop, AllInRange, AllocError, Answers, AnswersBy, AreNew, BreaksInRun, BreaksWithin, Entry, Err, Fault, Ghosts, HasRead, IfOk, InRange, IsPlaced, LineSinkState, List, None, Ok, Outcome, PlacesText, Reader, Refusal, Result, Some, StopsAt, StopsBy, TakesLinesOf, [], ap, append-nil, append_assoc, arith, begun, begun_comes_first, budget_of, bytes_ahead, came_with, cause_of, drop, drop-append-le, drop_all, drop_at, ended_by, entries_added, fed_breaks_among, get_or, get_or_append_left, inr, left_of, length, length-append, length-drop, line, line_at, lines, lines_at, lines_on, means, more_bytes_keep_entries, more_bytes_keep_refusal, places, places_before, read_values_are_in_range, refl, refusal_of, sink_of, start, step_of, stream, subst, suc, sym, take, take-add, take-append-drop, take-append-le, take-take, take_all, zero, ℕ, ◌++◌, ◌+◌, ◌-◌, ◌<◌, ◌∙◌, ◌∷◌, ◌≡◌, ◌≢◌, ◌≤◌}
+use Rattle.nap_command.proofs.LineLemmas.{all_alike, one_on}
 
 -- The lines of a page's entries, each after its place, byte by byte.
 
 -- a stream that is refused so far is refused whatever follows
 pub still_refused : (budget : ℕ) (p more : List ℕ) (r : Refusal) → (begun budget p).refusal ≡ Some r → (means budget (p ++ more)).refusal ≡ Some r
-still_refused budget p more r is =
-    let all = ap (λ (o : Outcome). o.refusal) (more_bytes_keep_refusal budget p more r is) ∙ is in
-    ap (λ (q : Option Refusal). (ended_by (begun budget (p ++ more)) (length (p ++ more)) q).refusal) all ∙ all
+still_refused budget p more r is = search (arith, more_bytes_keep_refusal)
 
 -- a sink of lines that has taken nothing
 abbrev pub no_lines : LineSinkState
@@ -32,20 +28,17 @@ module _ {g : Ghosts LineSinkState} (makes : (s : LineSinkState) (d : List Entry
       let known = subst (AnswersBy g no_lines (budget_of reader) p (sink_of reader) (left_of reader) r) own by in
       (makes no_lines _ _ known.taken ∙ ap (λ (b : ℕ). lines (begun b p).entries) same, ap (λ (b : ℕ). (begun b p).refusal) (sym same) ∙ known.refusal)
 
-pub own_cause : (f : Fault) → f ≢ fault.Memory → f ≢ fault.Sink → cause_of f ≡ stream
-own_cause fault.Memory apart also = absurd (apart refl)
-own_cause fault.Sink apart also = absurd (also refl)
+pub own_cause : (f : Fault) → f ≢ Fault.Memory → f ≢ Fault.Sink → cause_of f ≡ stream
+own_cause Fault.Memory apart also = absurd (apart refl)
+own_cause Fault.Sink apart also = absurd (also refl)
 own_cause _ apart also = refl
 
-pub true_isnt : false ≡ true → ⊥
-true_isnt h = let bad : ⊥ = cc in bad
-
 -- what a list has more than one that it begins with
-added_is : (xs ys more : List Entry) → ys ≡ xs ++ more → ys ≡ xs ++ entries_added xs ys
+pub added_is : (xs ys more : List Entry) → ys ≡ xs ++ more → ys ≡ xs ++ entries_added xs ys
 added_is xs ys more is = is ∙ ap (λ (zs : List Entry). xs ++ zs) (sym (ap (drop (length xs)) is ∙ drop_at xs more (length xs) refl))
 
-pub are_new : (xs ys more : List Entry) → ys ≡ xs ++ more → AreNew (length (lines xs)) (lines ys) (entries_added xs ys)
-are_new xs ys more is = record { before = xs; is = ap lines (added_is xs ys more is); size = refl }
+pub are_new : (xs ys more : List Entry) → ys ≡ xs ++ more → AllInRange ys → AreNew (length (lines xs)) (lines ys) (entries_added xs ys)
+are_new xs ys more is fits = record { before = xs; is = ap lines (added_is xs ys more is); size = refl; in_range = All-drop InRange (length xs) ys fits }
 
 pub counted : (xs ys more : List Entry) → ys ≡ xs ++ more → length xs + length (entries_added xs ys) ≡ length ys
 counted xs ys more is = sym (ap length (added_is xs ys more is) ∙ length-append xs (entries_added xs ys))
@@ -120,12 +113,12 @@ module _ (budget : ℕ) (p : List ℕ) where
   -- the bytes that a reader has looked at
   pub written_more : (i : ℕ) (found : Ahead) → 0 < bytes_ahead found → AddsAhead budget (take i p) (drop i p) found →
       places_before budget p i ++ lines_on i (step_of found) (entries_added (known i) (known (i + bytes_ahead found))) ≡ places_before budget p (i + bytes_ahead found)
-  written_more i (ahead.First zero) some adds = absurd (omega (arith, some))
-  written_more i (ahead.First (suc k)) some adds =
+  written_more i (Ahead.First zero) some adds = absurd (omega (arith, some))
+  written_more i (Ahead.First (suc k)) some adds =
       let same : (j : ℕ) → 1 ≤ j → j ≤ suc k → known (i + j) ≡ known (i + 1) = λ j least most. sym (following i j) ∙ adds j least most ∙ following i 1 in
       ap (λ (bs : List ℕ). places_before budget p i ++ bs) (all_alike i (entries_added (known i) (known (i + suc k))) ∙ ap (λ (es : List Entry). lines_at i (entries_added (known i) es)) (same (suc k) (omega arith) (omega arith)))
       ∙ sym (firsts i (suc k) same k (omega arith))
-  written_more i (ahead.Each n) some adds = let sized : (j : ℕ) → j ≤ n → length (known (i + j)) ≡ length (known i) + j = λ j few. ap length (sym (following i j)) ∙ adds j few in
+  written_more i (Ahead.Each n) some adds = let sized : (j : ℕ) → j ≤ n → length (known (i + j)) ≡ length (known i) + j = λ j few. ap length (sym (following i j)) ∙ adds j few in
       sym (eachs i n sized n (omega arith))
 
   pub written_last : (i : ℕ) → i ≡ length p → places_before budget p i ++ lines_on i 0 (entries_added (begun budget p).entries (means budget p).entries) ≡ places budget p
@@ -134,8 +127,8 @@ module _ (budget : ℕ) (p : List ℕ) where
       ∙ ap (λ (n : ℕ). places_before budget p n ++ lines_at n (entries_added (begun budget p).entries (means budget p).entries)) end
 
   pub stops_so : (found : Result PlacesText AllocError) (q : Refusal) (text : List ℕ) → IfOk found (λ r. r.ended ≡ Err q) →
-      IfOk found (λ r. q.fault ≡ fault.Memory → r.text.items ≡ []) → IfOk found (λ r. q.fault ≢ fault.Memory → r.text.items ≡ text) →
-      (q.fault ≢ fault.Memory → ((means budget p).refusal ≡ Some q) × (text ≡ places budget p)) → (q.fault ≡ fault.Memory → BreaksWithin budget p q.place) →
+      IfOk found (λ r. q.fault ≡ Fault.Memory → r.text.items ≡ []) → IfOk found (λ r. q.fault ≢ Fault.Memory → r.text.items ≡ text) →
+      (q.fault ≢ Fault.Memory → ((means budget p).refusal ≡ Some q) × (text ≡ places budget p)) → (q.fault ≡ Fault.Memory → BreaksWithin budget p q.place) →
       IfOk found (λ r. IsPlaced budget p r.text.items r.ended)
   stops_so (Ok r) q text end empty own refused breaks =
       subst (IsPlaced budget p r.text.items) (sym end) (record { refused = λ apart. let h = refused apart in (h.0, own apart ∙ h.1); memory = λ is. (breaks is, empty is) })
@@ -172,13 +165,13 @@ module _ (budget : ℕ) (p : List ℕ) where
         ap (λ (es : List Entry). places_before budget p (length p) ++ lines_at (length p) es) none ∙ append-nil (places_before budget p (length p))
         ∙ ap (places_before budget p) e ∙ stay (length p - i)
 
-pub broke_apart : {f : Fault} → f ≡ fault.Memory → cause_of f ≡ stream → ⊥
+pub broke_apart : {f : Fault} → f ≡ Fault.Memory → cause_of f ≡ stream → ⊥
 broke_apart is own = let other = ap cause_of (sym is) ∙ own in let bad : ⊥ = cc in bad
 
 -- A reader broke at a byte of the page: one of a piece after this place.
 module _ {S : Type 0} {g : Ghosts S} (s : S) (old new : Reader S g) (budget : ℕ) (page piece : List ℕ) (i m : ℕ) (q : Refusal) (cut : piece ≡ take m (drop i page))
     (was : budget_of old ≡ budget) (before : HasRead old s (take i page)) (n : ℕ) (stops : StopsAt old new piece q n) where
-  pub breaks_at : q.fault ≡ fault.Memory → BreaksWithin budget page q.place
+  pub breaks_at : q.fault ≡ Fault.Memory → BreaksWithin budget page q.place
   breaks_at is =
       let more = drop m (drop i page) in
       let whole : take i page ++ (piece ++ more) ≡ page =
@@ -233,7 +226,7 @@ module _ {g : Ghosts LineSinkState} (makes : (s : LineSinkState) (d : List Entry
 
   -- its lines are new
   pub next_new : (size : ℕ) (all : List ℕ) → size ≡ length (lines (known budget page i)) → all ≡ lines (known budget page (i + n)) → AreNew size all came
-  next_new size all was is = let (more, grown) = more_known budget page i n in rw (was, is) (are_new (known budget page i) (known budget page (i + n)) more grown)
+  next_new size all was is = let (more, grown) = more_known budget page i n in rw (was, is) (are_new (known budget page i) (known budget page (i + n)) more grown (read_values_are_in_range budget (take (i + n) page)).0)
 
   pub next_count : (count : ℕ) → count ≡ length (known budget page i) → count + length came ≡ length (known budget page (i + n))
   next_count count is = let (more, grown) = more_known budget page i n in rw is (counted (known budget page i) (known budget page (i + n)) more grown)
@@ -259,7 +252,7 @@ module _ (budget : ℕ) (p : List ℕ) (i : ℕ) (end : i ≡ length p) where
   pub last_new : (size : ℕ) (all : List ℕ) → size ≡ length (lines (known budget p i)) → all ≡ lines (means budget p).entries → AreNew size all came_last
   last_new size all was is =
       let (more, grown) = begun_comes_first budget p in
-      rw (was ∙ ap (λ (es : List Entry). length (lines es)) all_known_last, is) (are_new (begun budget p).entries (means budget p).entries more grown)
+      rw (was ∙ ap (λ (es : List Entry). length (lines es)) all_known_last, is) (are_new (begun budget p).entries (means budget p).entries more grown (read_values_are_in_range budget p).1)
 
   pub last_count : (count : ℕ) → count ≡ length (known budget p i) → count + length came_last ≡ length (means budget p).entries
   last_count count is =
@@ -268,4 +261,4 @@ module _ (budget : ℕ) (p : List ℕ) (i : ℕ) (end : i ≡ length p) where
 
 -- the lines that a refused page leaves, after those before
 abbrev pub BrokenAfter : Fault → ℕ → List ℕ → List ℕ → ℕ → ℕ → PlacesText → Type 0
-BrokenAfter f size all text place step r = f ≢ fault.Memory → (es : List Entry) → AreNew size all es → r.text.items ≡ text ++ lines_on place step es
+BrokenAfter f size all text place step r = f ≢ Fault.Memory → (es : List Entry) → AreNew size all es → r.text.items ≡ text ++ lines_on place step es

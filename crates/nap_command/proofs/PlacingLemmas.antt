@@ -1,6 +1,7 @@
 -- The places of the entries of a page.
 
-use Rattle.nap_command.proofs.Common.{All, All-append, All-cons, All-drop, All-head, All-nil, All-same, All-tail, All-take, All-weaker, CodeSets, Entry, List, Machine, NeverFalls, Outcome, PartsAt, PlacesAreExact, [], ap, append_assoc, arith, begun, begun_comes_first, came_with, cases_lt, drop, drop-append-le, drop_all, drop_at, entries_added, front_after_front, inl, inr, length, length-append, line_at, lines_at, lines_placed, means, more_bytes_keep_entries, nothing, outcome_from, placed_from, places, places_before, refl, start_machine, stream_front, subst, suc, sym, take, take-add, take-append-le, take_all, zero, ℕ, ◌++◌, ◌+◌, ◌-◌, ◌<◌, ◌∙◌, ◌∷◌, ◌≡◌, ◌≤◌, ◌⊎◌}
+use Rattle.nap_command.proofs.Common.{All, All-append, All-cons, All-drop, All-head, All-nil, All-same, All-tail, All-take, All-weaker, CodeSets, Entry, List, Machine, NeverFalls, Outcome, PartsAt, PlacesAreExact, [], ap, append_assoc, arith, begun, begun_comes_first, came_with, cases_lt, drop, drop-append-le, drop_all, entries_added, front_after_front, inl, inr, length, length-append, line_at, lines_at, lines_placed, means, more_bytes_keep_entries, nothing, outcome_from, placed_from, places, places_before, refl, start_machine, stream_front, subst, suc, sym, take, take-add, take-append-le, take_all, zero, ℕ, ◌++◌, ◌+◌, ◌-◌, ◌<◌, ◌∙◌, ◌∷◌, ◌≡◌, ◌≤◌, ◌⊎◌}
+use Rattle.nap_command.proofs.PlaceLemmas.{added_is}
 use Rattle.nap_codes.specs.Front as codes
 use Rattle.nap_reader.specs.Course as course
 
@@ -36,12 +37,6 @@ rises_more n (e ∷ es) [] h below = (repeated_all (λ m. n ≤ m) n es (omega a
 rises_more n es (m ∷ ns) h below =
     let least = All-head (λ a. a ≤ n) m ns below in
     (All-append (λ k. m ≤ k) ns (repeated n es) h.0 (repeated_all (λ k. m ≤ k) n es least), rises_more n es ns h.1 (All-tail (λ a. a ≤ n) m ns below))
-
--- the entries added to a list are those that it has after its prefix
-added_is : (es fs gs : List Entry) → gs ≡ es ++ fs → gs ≡ es ++ entries_added es gs
-added_is es fs gs same =
-    let back : entries_added es gs ≡ fs = ap (drop (length es)) same ∙ drop_at es fs (length es) refl in
-    same ∙ ap (λ (list : List Entry). es ++ list) (sym back)
 
 -- no entry is added by no bytes
 
@@ -134,7 +129,7 @@ module _ (budget : ℕ) (p : List ℕ) where
   fronts (suc n) =
       let e : suc n ≡ n + 1 = omega arith in
       let (more, longer) = grown n 1 in
-      let h = placing_more n (came_with budget p n) (entries (suc n)) (places_before budget p n) (fronts n) (ap entries e ∙ added_is (entries n) more (entries (n + 1)) longer) in
+      let h = placing_more n (came_with budget p n) (entries (suc n)) (places_before budget p n) (fronts n) (ap entries e ∙ added_is (entries n) (entries (n + 1)) more longer) in
       record { at = h.at; each = h.each; is = h.is; rise = h.rise; below = h.below; exact = λ m k. by h m k (cases_lt m (suc n)) }
     where
       by : (h : Placing n (suc n) (entries (suc n)) (places_before budget p n ++ lines_at n (came_with budget p n))) (m : ℕ) → m ≤ suc n → (m < suc n) ⊎ (suc n ≤ m) → PartsAt budget p h.at m
@@ -145,7 +140,7 @@ module _ (budget : ℕ) (p : List ℕ) where
   all_placed =
       let whole : take (length p) p ≡ p = take_all (length p) p (omega arith) in
       let longer = begun_comes_first budget p in
-      let more = added_is (begun budget p).entries longer.0 (means budget p).entries longer.1 in
+      let more = added_is (begun budget p).entries (means budget p).entries longer.0 longer.1 in
       placing_more (length p) (entries_added (begun budget p).entries (means budget p).entries) (means budget p).entries (places_before budget p (length p)) (fronts (length p))
       (more ∙ ap (λ (bytes : List ℕ). (begun budget bytes).entries ++ entries_added (begun budget p).entries (means budget p).entries) (sym whole))
 

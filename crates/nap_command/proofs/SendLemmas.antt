@@ -1,7 +1,5 @@
-use Rattle.nap_command.proofs.Common.{Appends-trans, Bool, Err, List, Ok, Result, SendsBytes, SendsHead, SendsText, ap, arith, count_on, flush_count, flushed_once, length, length-append, length-take, length-take-le, min, stopped_grows, sym, take, take-append-add, take-append-le, ℕ, ◌++◌, ◌+◌, ◌-◌, ◌^◌, ◌∙◌, ◌≡◌, ◌≤◌}
-use Rattle.nap_list.specs.declared.device.outlet.Outlet as outlet
-use Rattle.nap_command.specs.declared.batch.service.Ended.{Ended}
-use Rattle.nap_command.specs.declared.batch.service.Ended.TheVariants as ended
+use Rattle.nap_command.proofs.Common.{Appends-trans, Bool, Ended, Err, List, Ok, Result, SendsBytes, SendsHead, SendsText, ap, arith, count_on, flush_count, flushed_once, length, length-append, length-take, length-take-le, min, stopped_grows, sym, take, take-append-add, take-append-le, ℕ, ◌++◌, ◌+◌, ◌-◌, ◌^◌, ◌∙◌, ◌≡◌, ◌≤◌}
+use Rattle.nap_list.specs.declared.device.Outlet as outlet
 
 -- An answer is sent in two parts.
 
@@ -15,7 +13,7 @@ count_in_two_parts written head body n m first second =
 module _ {O : Type 0} (o : outlet.Ghosts O) (written : ℕ) (head body : List ℕ) (before : O) where
   -- the output failed during the first part
   pub head_fails : (after : O) (end : Ended) → SendsText o written head before after (Err end) → SendsText o written (head ++ body) before after (Err end)
-  head_fails after (ended.Write n) (part, sent, prefix, count, failed, flushes) =
+  head_fails after (Ended.Write n) (part, sent, prefix, count, failed, flushes) =
       let few : length part ≤ length head = omega (arith, ap length prefix, length-take (length part) head) in
       (part, sent, take-append-le (length part) head body few ∙ prefix, count, failed, flushes)
   head_fails after _ h = absurd h
@@ -29,7 +27,7 @@ module _ {O : Type 0} (o : outlet.Ghosts O) (written : ℕ) (head body : List �
     out,
     λ good. flushes (works ∙ good) ∙ ap flushed_once still,
   )
-  head_then mid after n (head_sent, count, works, still) (Err (ended.Write m)) (part, sent, prefix, number, failed, flushes) = (
+  head_then mid after n (head_sent, count, works, still) (Err (Ended.Write m)) (part, sent, prefix, number, failed, flushes) = (
     head ++ part,
     Appends-trans (o.taken before) (o.taken mid) (o.taken after) head part head_sent sent,
     ap (λ (k : ℕ). take k (head ++ body)) (length-append head part) ∙ take-append-add head body (length part) ∙ ap (λ (bytes : List ℕ). head ++ bytes) prefix,
@@ -49,7 +47,7 @@ module _ {O : Type 0} (o : outlet.Ghosts O) (written : ℕ) (head body : List �
   )
 
   -- a write of the first part failed
-  pub write_fails : (after : O) (taken n : ℕ) → written ≤ 2 ^ 64 - 1 → SendsBytes o before written head after n (Err taken) → SendsText o written head before after (Err (ended.Write n))
+  pub write_fails : (after : O) (taken n : ℕ) → written ≤ 2 ^ 64 - 1 → SendsBytes o before written head after n (Err taken) → SendsText o written head before after (Err (Ended.Write n))
   write_fails after taken n small stops =
       let part : List ℕ = take taken head in
       let grows = stopped_grows o before written head taken after n stops in (

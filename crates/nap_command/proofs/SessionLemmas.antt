@@ -1,16 +1,14 @@
-use Rattle.nap_command.proofs.Common.{All, All-push, Exchange, IsAtEnd, IsBegun, IsExchange, List, NoneFailed, Pipes, Reading, ReadingEnds, RunEnds, StopsIn, [], ap, append_assoc, arith, end_of, flat_map, flat_map_more, inl, inr, length, length-append, min, reading_between, refl, sym, ℕ, ◌++◌, ◌+◌, ◌-◌, ◌^◌, ◌∙◌, ◌∷◌, ◌≡◌}
-use Rattle.nap_command.specs.declared.batch.service.Ended.{Ended}
-use Rattle.nap_command.specs.declared.batch.service.Ended.TheVariants as ended
+use Rattle.nap_command.proofs.Common.{Ended, Exchange, IsAtEnd, IsBegun, List, NoneFailed, Pipes, Reading, ReadingEnds, RunEnds, StopsIn, [], ap, append_assoc, arith, end_of, flat_map, flat_map_more, inl, inr, length, length-append, min, reading_between, refl, sym, ℕ, ◌++◌, ◌+◌, ◌-◌, ◌^◌, ◌∙◌, ◌∷◌, ◌≡◌}
 
 -- Requests and answers in sequence, and how they end.
 
 -- a reading that ends in the same way, with the same bytes left
 pub stops_alike : (a b : Reading) (rest : List ℕ) (end : Ended) → b.left ≡ a.left → b.failed ≡ a.failed → b.failed_before ≡ a.failed_before → ReadingEnds a rest end → ReadingEnds b rest end
-stops_alike a b rest ended.Done left failed before h = (h.0, rw left h.1, failed ∙ h.2 ∙ sym before)
-stops_alike a b rest ended.Request left failed before (inl never, none) = (inl never, failed ∙ none ∙ sym before)
-stops_alike a b rest ended.Request left failed before (inr end, none) = (inr (end.0, end.1, rw left end.2), failed ∙ none ∙ sym before)
-stops_alike a b rest ended.Read left failed before (none, inl bad) = (none, inl (failed ∙ bad))
-stops_alike a b rest ended.Read left failed before (none, inr often) = (none, inr (often.0, failed ∙ often.1 ∙ sym before))
+stops_alike a b rest Ended.Done left failed before h = (h.0, rw left h.1, failed ∙ h.2 ∙ sym before)
+stops_alike a b rest Ended.Request left failed before (inl never, none) = (inl never, failed ∙ none ∙ sym before)
+stops_alike a b rest Ended.Request left failed before (inr end, none) = (inr (end.0, end.1, rw left end.2), failed ∙ none ∙ sym before)
+stops_alike a b rest Ended.Read left failed before (none, inl bad) = (none, inl (failed ∙ bad))
+stops_alike a b rest Ended.Read left failed before (none, inr often) = (none, inr (often.0, failed ∙ often.1 ∙ sym before))
 stops_alike a b rest _ left failed before h = absurd h
 
 -- the input ended before these bytes
@@ -25,9 +23,6 @@ asked_more xs x rest =
 
 pub answered_more : (xs : List Exchange) (x : Exchange) → flat_map (λ y. y.answered) xs ++ x.answered ≡ flat_map (λ y. y.answered) (xs ++ x ∷ [])
 answered_more xs x = flat_map_more (λ (y : Exchange). y.answered) [] xs x
-
-pub each_more : (xs : List Exchange) (x : Exchange) → All IsExchange xs → IsExchange x → All IsExchange (xs ++ x ∷ [])
-each_more xs x all own = All-push IsExchange xs x all own
 
 -- the bytes of the requests, with one more after the buffered bytes
 pub read_on : (xs : List Exchange) (x : Exchange) (old new bytes : List ℕ) → old ++ bytes ≡ x.asked ++ new →
@@ -47,10 +42,10 @@ count_more out more w n was is =
 pub ends_after : (before mid after : Pipes) (xs : List Exchange) (rest part : List ℕ) (written : ℕ) (end : Ended) → mid.input_failed ≡ before.input_failed →
     mid.output_failed ≡ before.output_failed → written ≡ min (length (flat_map (λ x. x.answered) xs)) (2 ^ 64 - 1) → StopsIn written rest part mid after end →
     RunEnds before after xs rest part end
-ends_after before mid after xs rest part written (ended.Write n) input output count (x, following, is, parts, prefix, number, failed, works, flushes) =
+ends_after before mid after xs rest part written (Ended.Write n) input output count (x, following, is, parts, prefix, number, failed, works, flushes) =
     (x, following, is, parts, prefix, count_more (flat_map (λ x. x.answered) xs) part written n count number, failed, works ∙ input)
-ends_after before mid after xs rest part written ended.Request input output count (none, stops, works) =
-    (none, inl (stops_alike (reading_between mid after) (reading_between before after) rest ended.Request refl refl (sym input) stops), works ∙ output)
-ends_after before mid after xs rest part written ended.Memory input output count h = absurd h.1
+ends_after before mid after xs rest part written Ended.Request input output count (none, stops, works) =
+    (none, inl (stops_alike (reading_between mid after) (reading_between before after) rest Ended.Request refl refl (sym input) stops), works ∙ output)
+ends_after before mid after xs rest part written Ended.Memory input output count h = absurd h.1
 ends_after before mid after xs rest part written end input output count h =
     (h.0, stops_alike (reading_between mid after) (reading_between before after) rest end refl refl (sym input) h.1, h.2 ∙ output)

@@ -1,11 +1,6 @@
-use Rattle.nap_command.proofs.Common.{Buffered, Consumes, Consumes-trans, Ended, Err, FindsRequest, FoundRequest, IsAsked, IsAtEnd, IsBegun, IsCutShort, IsDropped, IsFound, IsLast, IsMore, IsSkipped, IsStep, IsWhole, Keeps, KeepsWithin, List, NeverStarts, None, NoneFailed, Ok, Option, Reading, ReadingEnds, ReadsOn, RequestLine, Result, Skips, Some, TakesMemory, [], ap, append-nil, append_assoc, arith, end_of, inl, inr, length, length-append, max, memory_for, reading, reads_limit, refl, subst, sym, ℕ, ◌++◌, ◌+◌, ◌-◌, ◌∙◌, ◌∷◌, ◌≡◌, ◌≢◌, ◌≤◌}
-use Rattle.nap_list.specs.declared.device.inlet.Inlet as inlet
-use Rattle.nap_command.specs.declared.batch.input_buffer.Stop.TheVariants as stop
-use Rattle.nap_command.specs.declared.batch.service.Ended.TheVariants as ended
-use Rattle.nap_command.specs.declared.batch.waiting.FoundRequest.TheVariants as found
-use Rattle.nap_command.specs.declared.batch.waiting.ReadStep.TheVariants as step
-use Rattle.nap_command.proofs.FrontLemmas.{made_whole, more_begun, some_front, still_short}
-use Rattle.nap_command.proofs.MemoryLemmas.{keeps_on, stays_within, takes_within}
+use Rattle.nap_command.proofs.Common.{Buffered, Consumes, Consumes-trans, Ended, Err, FindsRequest, FoundRequest, IsAsked, IsAtEnd, IsBegun, IsCutShort, IsDropped, IsFound, IsLast, IsMore, IsSkipped, IsStep, IsWhole, Keeps, KeepsWithin, List, NeverStarts, None, NoneFailed, Ok, Option, ReadStep, Reading, ReadingEnds, ReadsOn, RequestLine, Result, Skips, Some, Stop, TakesMemory, [], ap, append-nil, append_assoc, arith, end_of, inl, inr, length, length-append, max, memory_for, nil_from_length, reading, reads_limit, refl, subst, sym, ℕ, ◌++◌, ◌+◌, ◌-◌, ◌∙◌, ◌≡◌, ◌≢◌, ◌≤◌}
+use Rattle.nap_list.specs.declared.device.Inlet as inlet
+use Rattle.nap_command.proofs.FrontLemmas.{made_whole, more_begun, some_front, still_short, keeps_on, stays_within, takes_within}
 use Rattle.nap_command.proofs.SessionLemmas.{ends_there, stops_alike}
 
 -- The bytes of requests are read until one is complete, or none can be.
@@ -15,15 +10,11 @@ keeps_all None b h = tt
 keeps_all (Some xs) None h = h
 keeps_all (Some xs) (Some ys) h = sym h
 
-empty : (xs : List ℕ) → length xs ≡ 0 → xs ≡ []
-empty [] h = refl
-empty (x ∷ xs) h = absurd (omega (arith, h))
-
 -- a read gave no byte
 pub none_came : (seen : Reading) (old new piece : List ℕ) → IsBegun old → new ≡ old ++ piece → length piece ≡ 0 → IsAtEnd seen.left → NoneFailed seen →
     ReadingEnds seen (old ++ piece) (end_of new)
 none_came seen old new piece none is zero end works =
-    let nothing : old ++ piece ≡ old = ap (λ (xs : List ℕ). old ++ xs) (empty piece zero) ∙ append-nil old in
+    let nothing : old ++ piece ≡ old = ap (λ (xs : List ℕ). old ++ xs) (nil_from_length piece zero) ∙ append-nil old in
     subst (λ (xs : List ℕ). ReadingEnds seen xs (end_of new)) (sym nothing)
     (subst (λ (xs : List ℕ). ReadingEnds seen old (end_of xs)) (sym (is ∙ nothing)) (ends_there seen old none end works))
 
@@ -37,17 +28,17 @@ dropped seen old bytes n short all = (short.request.question, short.request.budg
 
 pub stops_amid : (seen : Reading) (old bytes : List ℕ) (n most : ℕ) (end : Ended) → IsCutShort old n → reads_limit ≤ most + length old → Skips n most seen bytes (Err end) →
     ReadingEnds seen (old ++ bytes) end
-stops_amid seen old bytes n most ended.Request short few (less, end, works) = (inr (some_front old bytes n short, inr (n - length bytes, still_short old bytes n short less), end), works)
-stops_amid seen old bytes n most ended.Read short few (less, inl bad) = (inr (n - length bytes, still_short old bytes n short less), inl bad)
-stops_amid seen old bytes n most ended.Read short few (less, inr (often, works)) =
+stops_amid seen old bytes n most Ended.Request short few (less, end, works) = (inr (some_front old bytes n short, inr (n - length bytes, still_short old bytes n short less), end), works)
+stops_amid seen old bytes n most Ended.Read short few (less, inl bad) = (inr (n - length bytes, still_short old bytes n short less), inl bad)
+stops_amid seen old bytes n most Ended.Read short few (less, inr (often, works)) =
     (inr (n - length bytes, still_short old bytes n short less), inr (omega (arith, often, few, length-append old bytes), works))
 stops_amid seen old bytes n most _ short few h = absurd h
 
 -- what the bytes begin with after the last read
 pub last_found : (seen : Reading) (all : List ℕ) (buffered : Buffered) (r : Result FoundRequest Ended) → buffered.bytes ≡ all → reads_limit ≤ length all → NoneFailed seen → IsLast buffered.bytes r → FindsRequest seen all buffered r
-last_found seen all buffered (Ok (found.Whole line start)) same many works h = (same, subst (λ (xs : List ℕ). IsWhole xs line start) same h, works)
-last_found seen all buffered (Err ended.Request) same many works h = (inl (subst NeverStarts same h), works)
-last_found seen all buffered (Err ended.Read) same many works h = (subst IsBegun same h, inr (many, works))
+last_found seen all buffered (Ok (FoundRequest.Whole line start)) same many works h = (same, subst (λ (xs : List ℕ). IsWhole xs line start) same h, works)
+last_found seen all buffered (Err Ended.Request) same many works h = (inl (subst NeverStarts same h), works)
+last_found seen all buffered (Err Ended.Read) same many works h = (subst IsBegun same h, inr (many, works))
 last_found seen all buffered _ same many works h = absurd h
 
 -- One read, with n bytes of a page missing.
@@ -63,7 +54,7 @@ module _ {I : Type 0} (i : inlet.Ghosts I) (old : Buffered) (n : ℕ) (more : Is
     keeps = takes_within old.bytes piece n old.memory new.memory more memory;
   }
 
-  pub longer_step : (new : Buffered) (after : I) (k : ℕ) → k ≢ 0 → ReadsOn i old.bytes new.bytes before after (Ok k) → new.memory ≡ max old.memory needed → IsStep i old new before after (Ok step.Longer)
+  pub longer_step : (new : Buffered) (after : I) (k : ℕ) → k ≢ 0 → ReadsOn i old.bytes new.bytes before after (Ok k) → new.memory ≡ max old.memory needed → IsStep i old new before after (Ok ReadStep.Longer)
   longer_step new after k some (piece, read, is, size, end, works) memory = record {
     bytes = piece;
     read = read;
@@ -71,24 +62,24 @@ module _ {I : Type 0} (i : inlet.Ghosts I) (old : Buffered) (n : ℕ) (more : Is
     keeps = takes_within old.bytes piece n old.memory new.memory more memory;
   }
 
-  pub fails_step : (new : Buffered) (after : I) → ReadsOn i old.bytes new.bytes before after (Err stop.Read) → new.memory ≡ max old.memory needed → IsStep i old new before after (Err ended.Read)
+  pub fails_step : (new : Buffered) (after : I) → ReadsOn i old.bytes new.bytes before after (Err Stop.Read) → new.memory ≡ max old.memory needed → IsStep i old new before after (Err Ended.Read)
   fails_step new after (same, keeps, failed) memory = record {
     bytes = [];
     read = keeps_all (i.left before) (i.left after) keeps;
-    steps = none_following (reading i before after) old.bytes ended.Read (more_begun old.bytes n more, inl failed);
+    steps = none_following (reading i before after) old.bytes Ended.Read (more_begun old.bytes n more, inl failed);
     keeps = takes_within old.bytes [] n old.memory new.memory more memory;
   }
 
   -- the line of a request doesn't lack memory
-  pub some_lack : (m : ℕ) → TakesMemory needed old.memory m (Err stop.Memory) → n ≢ 0
+  pub some_lack : (m : ℕ) → TakesMemory needed old.memory m (Err Stop.Memory) → n ≢ 0
   some_lack m (same, least, less) none = let bad : ⊥ = omega (arith, none, least, less, (more.endless none).few) in absurd bad
 
   -- The end of the page is skipped.
-  module _ (most m : ℕ) (buffered : List ℕ) (mid after : I) (lacks : ReadsOn i old.bytes buffered before mid (Err stop.Memory)) (takes : TakesMemory needed old.memory m (Err stop.Memory)) where
+  module _ (most m : ℕ) (buffered : List ℕ) (mid after : I) (lacks : ReadsOn i old.bytes buffered before mid (Err Stop.Memory)) (takes : TakesMemory needed old.memory m (Err Stop.Memory)) where
     skipped : (r : Result (Unit {0}) Ended) → IsSkipped i n most mid after r → IsSkipped i n most before after r
     skipped r h = subst (λ (x : I). IsSkipped i n most x after r) lacks.1 h
 
-    pub drops_step : (new : Buffered) (x : Unit {0}) → IsSkipped i n most mid after (Ok x) → new ≡ record { bytes = []; memory = m } → IsStep i old new before after (Ok step.Dropped)
+    pub drops_step : (new : Buffered) (x : Unit {0}) → IsSkipped i n most mid after (Ok x) → new ≡ record { bytes = []; memory = m } → IsStep i old new before after (Ok ReadStep.Dropped)
     drops_step new x is emptied =
         let h = skipped (Ok x) is in
         let memory : new.memory ≡ m = ap (λ (b : Buffered). b.memory) emptied in
@@ -122,10 +113,10 @@ module _ {I : Type 0} (i : inlet.Ghosts I) (old buffered : Buffered) (bytes : Li
   kept : KeepsWithin (old.bytes ++ bytes) old.memory buffered.memory
   kept = subst (λ (xs : List ℕ). KeepsWithin xs old.memory buffered.memory) is keeps
 
-  pub finds_wrong : NeverStarts buffered.bytes → IsFound i old buffered before mid (Err ended.Request)
+  pub finds_wrong : NeverStarts buffered.bytes → IsFound i old buffered before mid (Err Ended.Request)
   finds_wrong never = record { bytes = bytes; read = read; finds = (inl (subst NeverStarts is never), works); keeps = kept }
 
-  pub finds_whole : (line : RequestLine) (start : ℕ) → IsWhole buffered.bytes line start → IsFound i old buffered before mid (Ok (found.Whole line start))
+  pub finds_whole : (line : RequestLine) (start : ℕ) → IsWhole buffered.bytes line start → IsFound i old buffered before mid (Ok (FoundRequest.Whole line start))
   finds_whole line start whole =
       record { bytes = bytes; read = read; finds = (is, subst (λ (xs : List ℕ). IsWhole xs line start) is whole, works); keeps = kept }
 
@@ -146,7 +137,7 @@ module _ {I : Type 0} (i : inlet.Ghosts I) (old buffered : Buffered) (bytes : Li
   kept_all : (more : List ℕ) (m : ℕ) → KeepsWithin (buffered.bytes ++ more) buffered.memory m → KeepsWithin (old.bytes ++ (bytes ++ more)) old.memory m
   kept_all more m h = subst (λ (xs : List ℕ). KeepsWithin xs old.memory m) (joins more) (kept_on more m h)
 
-  pub longer : (new : Buffered) (after : I) → IsStep i buffered new mid after (Ok step.Longer) → KeepsWithin new.bytes old.memory new.memory
+  pub longer : (new : Buffered) (after : I) → IsStep i buffered new mid after (Ok ReadStep.Longer) → KeepsWithin new.bytes old.memory new.memory
   longer new after h = subst (λ (xs : List ℕ). KeepsWithin xs old.memory new.memory) (sym h.steps.0) (kept_on h.bytes new.memory h.keeps)
 
   pub finds_end : (new : Buffered) (after : I) (end : Ended) → IsStep i buffered new mid after (Err end) → IsFound i old new before after (Err end)
@@ -159,7 +150,7 @@ module _ {I : Type 0} (i : inlet.Ghosts I) (old buffered : Buffered) (bytes : Li
     keeps = kept_all h.bytes new.memory h.keeps;
   }
 
-  pub finds_dropped : (new : Buffered) (after : I) → IsStep i buffered new mid after (Ok step.Dropped) → IsFound i old new before after (Ok found.Dropped)
+  pub finds_dropped : (new : Buffered) (after : I) → IsStep i buffered new mid after (Ok ReadStep.Dropped) → IsFound i old new before after (Ok FoundRequest.Dropped)
   finds_dropped new after h =
       let (gone, fine) = h.steps in
       record {

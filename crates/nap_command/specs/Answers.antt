@@ -1,19 +1,10 @@
-use Rattle.std.specs.Prelude.{ℕ, zero, suc, ◌≡◌, ◌≢◌, ◌⊎◌, ◌+◌, ◌^◌, ◌≤◌, false, List, [], ◌∷◌, ◌++◌, Some, Result, Ok, Err, decimal, drop, flat_map, length, take, IfSome, IsSome}
-use Rattle.nap_command.specs.Types.{Action, Command, Entry, Failure, MakeFault, PageText, Question, Refusal}
-use Rattle.nap_reader.specs.declared.fault.Fault.TheVariants as fault
-use Rattle.nap_reader.specs.Breaking.{BreaksWithin, LacksWithin}
-use Rattle.nap_reader.specs.Stream.{begun, means, refusal}
-use Rattle.nap_canon.specs.Streams.{IsAccepted, list_of}
-use Rattle.nap_canon.specs.Text.{text}
+use Rattle.std.specs.Prelude.{Err, IfSome, IsSome, List, Ok, Result, Some, [], decimal, drop, false, flat_map, length, suc, take, zero, ℕ, ◌++◌, ◌+◌, ◌^◌, ◌∷◌, ◌≡◌, ◌≢◌, ◌≤◌, ◌⊎◌}
+use Rattle.nap_command.specs.Types.{Action, BreaksWithin, Command, Entry, Failure, Fault, IsAccepted, IsMadeOf, LacksWithin, MakeFault, PageText, Question, Refusal, begun, lines, list_of, means, refusal, text}
 use Rattle.nap_lines.specs.Lines.{line}
-use Rattle.nap_lines.specs.Listing.{lines}
-use Rattle.nap_make.specs.Making.{IsMadeOf}
 use Rattle.nap_make.specs.Texts.{DeniesLines}
-use Rattle.nap_command.specs.declared.command.Action.TheVariants as action
 use Rattle.nap_command.specs.Commands.{Denies, count_line}
 use Rattle.nap_command.specs.Failures.{failure_text, refusal_text}
 use Rattle.nap_command.specs.Making.{failure_of}
-use Rattle.nap_command.specs.declared.batch.request.Question.TheVariants as question
 
 -- The line of an answer.
 
@@ -58,8 +49,8 @@ pub record CountsPlaces (budget : ℕ) (p text : List ℕ) (n : ℕ) : Type 0 wh
   pub text_is : text ≡ places budget p
 
 pub record RefusesPlaces (budget : ℕ) (p text : List ℕ) (r : Refusal) : Type 0 where
-  pub refused : r.fault ≢ fault.Memory → ((means budget p).refusal ≡ Some r) × (text ≡ places budget p)
-  pub memory : r.fault ≡ fault.Memory → BreaksWithin budget p r.place × (text ≡ [])
+  pub refused : r.fault ≢ Fault.Memory → ((means budget p).refusal ≡ Some r) × (text ≡ places budget p)
+  pub memory : r.fault ≡ Fault.Memory → BreaksWithin budget p r.place × (text ≡ [])
 
 abbrev pub IsPlaced : ℕ → List ℕ → List ℕ → Result ℕ Refusal → Type 0
 IsPlaced budget p text (Ok n) = CountsPlaces budget p text n
@@ -69,15 +60,15 @@ IsPlaced budget p text (Err r) = RefusesPlaces budget p text r
 
 -- the body of an answer for an accepted page
 abbrev pub accepted_body_of : Question → ℕ → List ℕ → List ℕ
-accepted_body_of question.Check budget p = []
-accepted_body_of question.List budget p = lines (list_of budget p)
-accepted_body_of question.Canon budget p = text (list_of budget p)
-accepted_body_of question.Places budget p = places budget p
-accepted_body_of question.Make budget p = []
+accepted_body_of Question.Check budget p = []
+accepted_body_of Question.List budget p = lines (list_of budget p)
+accepted_body_of Question.Canon budget p = text (list_of budget p)
+accepted_body_of Question.Places budget p = places budget p
+accepted_body_of Question.Make budget p = []
 
 -- the body of an answer for a refused page
 abbrev pub refused_body_of : Question → ℕ → List ℕ → List ℕ
-refused_body_of question.Places budget p = places budget p
+refused_body_of Question.Places budget p = places budget p
 refused_body_of _ budget p = []
 
 -- the page is accepted
@@ -89,7 +80,7 @@ pub record AcceptsWith (q : Question) (budget : ℕ) (p line body : List ℕ) : 
 -- the page is refused
 pub record RefusesWith (q : Question) (budget : ℕ) (p line body : List ℕ) : Type 0 where
   pub refusal : Refusal
-  pub own : refusal.fault ≢ fault.Memory
+  pub own : refusal.fault ≢ Fault.Memory
   pub refused : (means budget p).refusal ≡ Some refusal
   pub line_is : line ≡ refused_line refusal
   pub body_is : body ≡ refused_body_of q budget p
@@ -99,8 +90,8 @@ pub record RefusesWith (q : Question) (budget : ℕ) (p line body : List ℕ) : 
 pub record LacksWith (q : Question) (budget : ℕ) (p line body : List ℕ) : Type 0 where
   pub place : ℕ
   pub breaks : BreaksWithin budget p place
-  pub counting : q ≡ question.Check → LacksWithin budget p place ⊎ (2 ^ 64 ≤ length (means budget p).entries)
-  pub line_is : line ≡ refused_line (refusal fault.Memory place)
+  pub counting : q ≡ Question.Check → LacksWithin budget p place ⊎ (2 ^ 64 ≤ length (means budget p).entries)
+  pub line_is : line ≡ refused_line (refusal Fault.Memory place)
   pub body_is : body ≡ []
 
 -- the line and the body of an answer to a question about a page
@@ -130,7 +121,7 @@ AnswersLines p line body = MakesBody p line body ⊎ MakesNoPage p line body
 
 -- the line and the body of an answer; lines are charged nothing
 abbrev pub IsAnswer : Question → ℕ → List ℕ → List ℕ → List ℕ → Type 0
-IsAnswer question.Make budget p line body = AnswersLines p line body
+IsAnswer Question.Make budget p line body = AnswersLines p line body
 IsAnswer q budget p line body = AnswersPage q budget p line body
 
 -- the bytes of an answer
@@ -148,9 +139,9 @@ DeniesPage act budget p f = Denies (page_command act budget) p f
 
 -- the question whose answer has what the command of an action prints
 abbrev pub question_of : Action → Question
-question_of action.Check = question.Check
-question_of action.List = question.List
-question_of action.Canon = question.Canon
+question_of Action.Check = Question.Check
+question_of Action.List = Question.List
+question_of Action.Canon = Question.Canon
 
 -- The canonical text of a page.
 

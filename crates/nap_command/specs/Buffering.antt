@@ -1,7 +1,5 @@
-use Rattle.std.specs.Prelude.{ℕ, ◌≡◌, ◌+◌, ◌*◌, ◌<◌, ◌≤◌, List, ◌++◌, Result, Err, length, max}
-use Rattle.nap_command.specs.Types.{Question, Stop}
-use Rattle.nap_command.specs.declared.batch.input_buffer.Stop.TheVariants as stop
-use Rattle.nap_list.specs.Limits.{read_limit}
+use Rattle.std.specs.Prelude.{Err, List, Result, length, max, ℕ, ◌*◌, ◌++◌, ◌+◌, ◌<◌, ◌≡◌, ◌≤◌}
+use Rattle.nap_command.specs.Types.{Question, Stop, read_limit}
 use Rattle.nap_command.specs.Requests.{IsRequest}
 
 -- How much memory is kept for what is read.
@@ -21,7 +19,7 @@ memory_for size missing = size + max missing read_limit
 
 -- At a read a buffer takes the memory that it lacks, and no more. If there is none, it lacked some.
 abbrev pub TakesMemory : ℕ → ℕ → ℕ → Result ℕ Stop → Type 0
-TakesMemory needed old new (Err stop.Memory) = (new ≡ old) × (least_memory ≤ old) × (old < needed)
+TakesMemory needed old new (Err Stop.Memory) = (new ≡ old) × (least_memory ≤ old) × (old < needed)
 TakesMemory needed old new _ = new ≡ max old needed
 
 -- A buffer with more memory than before has enough of it for one read and the request that these bytes begin, and no

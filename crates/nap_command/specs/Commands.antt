@@ -1,24 +1,10 @@
-use Rattle.std.specs.Prelude.{ℕ, ◌≡◌, ◌≢◌, ◌⊎◌, ◌==◌, ◌||◌, ◌+◌, ◌^◌, ◌≤◌, not, Bool, true, false, List, [], ◌∷◌, ◌++◌, length, take, filter, codes, decimal, Some, Result, Ok, Err, IsErr}
-use Rattle.std.specs.Io.KnownBytes.{Appends, Consumes}
 use Rattle.hex.specs.Hex.{decode_of, encode_lower}
-use Rattle.nap_command.specs.Types.{Action, Command, CountSink, Failure, Refusal, Verdict}
-use Rattle.nap_reader.specs.declared.fault.Fault.TheVariants as fault
+use Rattle.std.specs.Prelude.{Bool, Err, IsErr, List, Ok, Result, Some, [], codes, decimal, false, filter, length, not, take, true, ℕ, ◌++◌, ◌+◌, ◌==◌, ◌^◌, ◌||◌, ◌∷◌, ◌≡◌, ◌≢◌, ◌≤◌, ◌⊎◌}
+use Rattle.nap_command.specs.Types.{Action, Appends, BreaksWithin, Command, Consumes, CountSink, Failure, Fault, IsAccepted, IsCanonicalOf, IsCutOff, IsReadWhole, LacksWithin, NoneFailed, Reading, Refusal, Verdict, flush_count, lines, list_of, means, reads_limit}
 use Rattle.nap_reader.specs.declared.twice.TwiceFault.{TwiceFault}
-use Rattle.nap_reader.specs.declared.twice.TwiceFault.TheVariants as twice_fault
-use Rattle.nap_reader.specs.Stream.{means}
-use Rattle.nap_reader.specs.Breaking.{BreaksWithin, LacksWithin}
 use Rattle.nap_canon.specs.declared.conversion.ConvertFault.{ConvertFault}
-use Rattle.nap_canon.specs.declared.conversion.ConvertFault.TheVariants as convert_fault
 use Rattle.nap_canon.specs.Converting.{Converts, StopsAtOnce, count_of}
-use Rattle.nap_canon.specs.Streams.{IsAccepted, list_of, IsCanonicalOf}
-use Rattle.nap_command.specs.declared.answer.Verdict.TheVariants as verdict
-use Rattle.nap_command.specs.declared.command.Action.TheVariants as action
-use Rattle.nap_list.specs.Flushing.{flush_count}
-use Rattle.nap_list.specs.Limits.{reads_limit}
-use Rattle.nap_list.specs.declared.device.inlet.Inlet as inlet
-use Rattle.nap_list.specs.Reading.{Reading, NoneFailed, IsCutOff, IsReadWhole}
-use Rattle.nap_command.specs.declared.failure.Failure.TheVariants as failure
-use Rattle.nap_lines.specs.Listing.{lines}
+use Rattle.nap_list.specs.declared.device.Inlet as inlet
 use Rattle.nap_command.specs.Failures.{exit_status, refusal_text, reported_text}
 use Rattle.nap_command.specs.Devices.{Devices, reading_of}
 
@@ -49,27 +35,27 @@ canon_text true text = encode_lower text ++ 10 ∷ []
 
 -- what is printed of a page whose entries were counted
 abbrev pub PrintsCount : Result CountSink Refusal → List ℕ → Verdict → Type 0
-PrintsCount (Ok s) q verdict.Accepted = q ≡ count_line s.count
-PrintsCount (Err r) q verdict.Refused = q ≡ refusal_text r ++ 10 ∷ []
+PrintsCount (Ok s) q Verdict.Accepted = q ≡ count_line s.count
+PrintsCount (Err r) q Verdict.Refused = q ≡ refusal_text r ++ 10 ∷ []
 PrintsCount found q v = ⊥
 
 -- The refusal is that of the stream. One for lack of memory has a place where the reader or an act of the stream can
 -- lack it.
 pub record IsStreamRefusal (c : Command) (stream : List ℕ) (r : Refusal) : Type 0 where
-  pub refused : r.fault ≢ fault.Memory → (means c.budget stream).refusal ≡ Some r
-  pub memory : r.fault ≡ fault.Memory → BreaksWithin c.budget stream r.place
+  pub refused : r.fault ≢ Fault.Memory → (means c.budget stream).refusal ≡ Some r
+  pub memory : r.fault ≡ Fault.Memory → BreaksWithin c.budget stream r.place
 
 -- A count lacks memory if the reader itself does, or if the number of entries exceeds 64 bits.
 abbrev pub CountLacksMemory : Command → List ℕ → Refusal → Type 0
-CountLacksMemory c stream r = r.fault ≡ fault.Memory → LacksWithin c.budget stream r.place ⊎ (2 ^ 64 ≤ length (means c.budget stream).entries)
+CountLacksMemory c stream r = r.fault ≡ Fault.Memory → LacksWithin c.budget stream r.place ⊎ (2 ^ 64 ≤ length (means c.budget stream).entries)
 
 -- what an action prints of a stream, with its verdict; only `check` prints a refusal
 abbrev pub PrintsBy : Action → Command → List ℕ → List ℕ → Verdict → Type 0
-PrintsBy action.List c stream q verdict.Accepted = IsAccepted c.budget stream × (q ≡ lines (list_of c.budget stream))
-PrintsBy action.Check c stream q verdict.Accepted = IsAccepted c.budget stream × (q ≡ count_line (length (list_of c.budget stream)))
-PrintsBy action.Check c stream q verdict.Refused = (r : Refusal) × IsStreamRefusal c stream r × CountLacksMemory c stream r × (q ≡ refusal_text r ++ 10 ∷ [])
-PrintsBy action.Canon c stream q verdict.Accepted = (text : List ℕ) × IsCanonicalOf c.budget text stream × (q ≡ canon_text c.hex text)
-PrintsBy _ c stream q verdict.Refused = ⊥
+PrintsBy Action.List c stream q Verdict.Accepted = IsAccepted c.budget stream × (q ≡ lines (list_of c.budget stream))
+PrintsBy Action.Check c stream q Verdict.Accepted = IsAccepted c.budget stream × (q ≡ count_line (length (list_of c.budget stream)))
+PrintsBy Action.Check c stream q Verdict.Refused = (r : Refusal) × IsStreamRefusal c stream r × CountLacksMemory c stream r × (q ≡ refusal_text r ++ 10 ∷ [])
+PrintsBy Action.Canon c stream q Verdict.Accepted = (text : List ℕ) × IsCanonicalOf c.budget text stream × (q ≡ canon_text c.hex text)
+PrintsBy _ c stream q Verdict.Refused = ⊥
 
 -- what a command prints of the bytes p, with its verdict
 abbrev pub Prints : Command → List ℕ → List ℕ → Verdict → Type 0
@@ -77,79 +63,83 @@ Prints c p q v = (stream : List ℕ) × IsStream c.hex p stream × PrintsBy c.ac
 
 -- why text isn't accepted as hexadecimal: it isn't, or memory ran out
 abbrev pub FailsToSpell : List ℕ → Failure → Type 0
-FailsToSpell text failure.Hex = IsErr (decode_of (hex_digits_of text))
-FailsToSpell text failure.Memory = Unit {0}
+FailsToSpell text Failure.Hex = IsErr (decode_of (hex_digits_of text))
+FailsToSpell text Failure.Memory = Unit {0}
 FailsToSpell text _ = ⊥
 
 -- why a command prints nothing of a stream: `list` and `canon` refuse it, or memory ran out
 abbrev pub Denies : Command → List ℕ → Failure → Type 0
-Denies c stream (failure.Refused r) = (c.action ≢ action.Check) × IsStreamRefusal c stream r
-Denies c stream failure.Memory = Unit {0}
+Denies c stream (Failure.Refused r) = (c.action ≢ Action.Check) × IsStreamRefusal c stream r
+Denies c stream Failure.Memory = Unit {0}
 Denies c stream _ = ⊥
 
 -- why a command prints nothing of the bytes p
 abbrev pub FailsOn : Command → List ℕ → Failure → Type 0
-FailsOn c p failure.Hex = (c.hex ≡ true) × IsErr (decode_of (hex_digits_of p))
-FailsOn c p (failure.Refused r) = (stream : List ℕ) × IsStream c.hex p stream × Denies c stream (failure.Refused r)
-FailsOn c p failure.Memory = Unit {0}
+FailsOn c p Failure.Hex = (c.hex ≡ true) × IsErr (decode_of (hex_digits_of p))
+FailsOn c p (Failure.Refused r) = (stream : List ℕ) × IsStream c.hex p stream × Denies c stream (Failure.Refused r)
+FailsOn c p Failure.Memory = Unit {0}
 FailsOn c p _ = ⊥
 
 -- How a command ends.
 
 -- why a command that read the bytes p prints nothing
 abbrev pub Fails : Command → List ℕ → Reading → Failure → Type 0
-Fails c p input failure.Read = IsCutOff input p
-Fails c p input failure.Memory = NoneFailed input
+Fails c p input Failure.Read = IsCutOff input p
+Fails c p input Failure.Memory = NoneFailed input
 Fails c p input f = IsReadWhole input p × FailsOn c p f
 
 -- a command answers this for the bytes p
 abbrev pub Finds : Command → List ℕ → Reading → List ℕ → Verdict → Type 0
 Finds c p input q v = IsReadWhole input p × Prints c p q v
 
--- q is a prefix of what a command prints of the bytes p, which is nothing if it fails
-abbrev pub IsPartly : Command → List ℕ → Reading → List ℕ → Type 0
-IsPartly c p input q =
-    ((whole : List ℕ) × (v : Verdict) × Finds c p input whole v × (take (length q) whole ≡ q)) ⊎ ((f : Failure) × Fails c p input f × (q ≡ []))
+-- q is a prefix of what is found, and nothing after a failure
+abbrev pub IsPartly : (List ℕ → Verdict → Type 0) → (Failure → Type 0) → List ℕ → Type 0
+IsPartly finds fails q = ((whole : List ℕ) × (v : Verdict) × finds whole v × (take (length q) whole ≡ q)) ⊎ ((f : Failure) × fails f × (q ≡ []))
 
--- `check` or `canon` read the bytes p, printed q, and ended like this. The output failed exactly if that is how it
--- ended.
+-- What is found was printed: q, which has this length, and a command ended like this. The output failed exactly if that
+-- is how it ended.
+abbrev pub EndsPrinting : (List ℕ → Verdict → Type 0) → (Failure → Type 0) → ℕ → List ℕ → Bool → Result Verdict Failure → Type 0
+EndsPrinting finds fails size q false (Ok v) = finds q v
+EndsPrinting finds fails size q true (Ok v) = ⊥
+EndsPrinting finds fails size q false (Err f) = (q ≡ []) × fails f
+EndsPrinting finds fails size q true (Err (Failure.Write taken)) = (taken ≡ size) × IsPartly finds fails q
+EndsPrinting finds fails size q true (Err _) = ⊥
+
+-- `check` or `canon` read the bytes p, printed q, and ended like this
 abbrev pub EndsWhole : Command → List ℕ → Reading → List ℕ → Bool → Result Verdict Failure → Type 0
-EndsWhole c p input q false (Ok v) = Finds c p input q v
-EndsWhole c p input q true (Ok v) = ⊥
-EndsWhole c p input q false (Err f) = (q ≡ []) × Fails c p input f
-EndsWhole c p input q true (Err (failure.Write taken)) = (taken ≡ length q) × IsPartly c p input q
-EndsWhole c p input q true (Err _) = ⊥
+EndsWhole c p input q failed ended = EndsPrinting (Finds c p input) (Fails c p input) (length q) q failed ended
 
 -- `list` read the bytes p, and printed q once all of the page was accepted. If it fails it prints nothing, unless a write
 -- fails.
 abbrev pub EndsListed : Command → List ℕ → Reading → List ℕ → Bool → Result Verdict Failure → Type 0
-EndsListed c p input q false (Ok v) = Finds c p input q v
-EndsListed c p input q true (Ok v) = ⊥
-EndsListed c p input q false (Err f) = (q ≡ []) × Fails c p input f
-EndsListed c p input q true (Err (failure.Write taken)) = (taken ≡ count_of q) × IsPartly c p input q
-EndsListed c p input q true (Err _) = ⊥
+EndsListed c p input q failed ended = EndsPrinting (Finds c p input) (Fails c p input) (count_of q) q failed ended
+
+-- an output took q of a text, and failed; or it took all of the text, and a command ended like this
+abbrev pub IsPrinted : List ℕ → Result Verdict Failure → List ℕ → Bool → Result Verdict Failure → Type 0
+IsPrinted text ended q false outcome = (q ≡ text) × (outcome ≡ ended)
+IsPrinted text ended q true outcome = (outcome ≡ Err (Failure.Write (length q))) × (take (length q) text ≡ q)
 
 -- how a command ends after reading with this result, where the output took a number of bytes and has failed or hasn't
 abbrev pub ended_so : {S : Type 0} → Result S TwiceFault → Result Verdict Failure
-ended_so (Ok s) = Ok verdict.Accepted
-ended_so (Err (twice_fault.Refused r)) = Err (failure.Refused r)
-ended_so (Err twice_fault.Memory) = Err failure.Memory
+ended_so (Ok s) = Ok Verdict.Accepted
+ended_so (Err (TwiceFault.Refused r)) = Err (Failure.Refused r)
+ended_so (Err TwiceFault.Memory) = Err Failure.Memory
 
 abbrev pub EndsSo : {S : Type 0} → Result S TwiceFault → ℕ → Bool → Result Verdict Failure → Type 0
-EndsSo found n true ended = ended ≡ Err (failure.Write n)
+EndsSo found n true ended = ended ≡ Err (Failure.Write n)
 EndsSo found n false ended = ended ≡ ended_so found
 
 -- a command that prints once all of its input is read
 abbrev pub EndsByAction : Action → Command → List ℕ → Reading → List ℕ → Bool → Result Verdict Failure → Type 0
-EndsByAction action.List c p input q failed ended = EndsListed c p input q failed ended
+EndsByAction Action.List c p input q failed ended = EndsListed c p input q failed ended
 EndsByAction _ c p input q failed ended = EndsWhole c p input q failed ended
 
 -- how a command ends that converts a page
 abbrev pub verdict_of_conversion : Result ℕ ConvertFault → Result Verdict Failure
-verdict_of_conversion (Ok n) = Ok verdict.Accepted
-verdict_of_conversion (Err (convert_fault.Refused r n)) = Err (failure.Refused r)
-verdict_of_conversion (Err (convert_fault.Read n)) = Err failure.Read
-verdict_of_conversion (Err (convert_fault.Write n)) = Err (failure.Write n)
+verdict_of_conversion (Ok n) = Ok Verdict.Accepted
+verdict_of_conversion (Err (ConvertFault.Refused r n)) = Err (Failure.Refused r)
+verdict_of_conversion (Err (ConvertFault.Read n)) = Err Failure.Read
+verdict_of_conversion (Err (ConvertFault.Write n)) = Err (Failure.Write n)
 
 -- A command that prints as it reads converted the bytes p to q, and ended like this.
 pub record EndsStreamed (c : Command) (p : List ℕ) (input : Reading) (q : List ℕ) (failed : Bool) (ended : Result Verdict Failure) : Type 0 where
@@ -164,7 +154,7 @@ pub record EndsExcluded (p : List ℕ) (input : Reading) (q : List ℕ) (failed 
   pub none_failed : NoneFailed input
   pub unprinted : q ≡ []
   pub works : failed ≡ false
-  pub ended_is : ended ≡ Err failure.Excluded
+  pub ended_is : ended ≡ Err Failure.Excluded
 
 -- a command with or without `--stream`, and with or without `--hex`
 abbrev pub EndsByOptions : Bool → Bool → Command → List ℕ → Reading → List ℕ → Bool → Result Verdict Failure → Type 0
@@ -187,16 +177,18 @@ flushed_by false hex write_failed n = flush_count write_failed n
 flushed_by true false write_failed n = flush_count write_failed n
 flushed_by true true write_failed n = n
 
--- Standard error took e when a command ended like this: all of the line, unless standard error failed. The exit status
--- says the same.
-pub record Reports (e : List ℕ) (failed : Bool) (ended : Result Verdict Failure) (status : ℕ) : Type 0 where
-  pub prefix : take (length e) (reported_text ended) ≡ e
-  pub all : failed ≡ false → e ≡ reported_text ended
-  pub status_is : status ≡ exit_status ended
+-- Standard error took e of a line: all of it, unless it failed.
+pub record Reported (line e : List ℕ) (failed : Bool) : Type 0 where
+  pub prefix : take (length e) line ≡ e
+  pub all : failed ≡ false → e ≡ line
+
+-- standard error took e when a command ended like this, and the exit status says the same
+abbrev pub Reports : List ℕ → Bool → Result Verdict Failure → ℕ → Type 0
+Reports e failed ended status = Reported (reported_text ended) e failed × (status ≡ exit_status ended)
 
 -- all that was printed was flushed, unless the output failed or the command isn't executed
 abbrev pub SendsOn : Result Verdict Failure → Bool → Bool → Type 0
-SendsOn ended failed sent = failed ≡ false → (sent ≡ true) ⊎ (ended ≡ Err failure.Excluded)
+SendsOn ended failed sent = failed ≡ false → (sent ≡ true) ⊎ (ended ≡ Err Failure.Excluded)
 
 -- A command ran on an input, from the devices before to those after, with this exit status: it read the bytes p,
 -- printed q and reported e.

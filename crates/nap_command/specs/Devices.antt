@@ -1,10 +1,7 @@
-use Rattle.std.specs.Prelude.{ℕ, ◌-◌, ◌≤◌, Bool, List, Option, Result, Ok, Err, length, take}
-use Rattle.std.specs.Io.KnownBytes.{Appends}
-use Rattle.nap_list.specs.declared.device.inlet.Inlet as inlet
-use Rattle.nap_list.specs.declared.device.outlet.Outlet as outlet
-use Rattle.nap_list.specs.Reading.{Reading, NoneFailed, IsCutOff}
-use Rattle.nap_command.specs.declared.failure.Failure.{Failure}
-use Rattle.nap_command.specs.declared.failure.Failure.TheVariants as failure
+use Rattle.std.specs.Prelude.{Bool, Err, List, Ok, Option, Result, length, take, ℕ, ◌-◌, ◌≤◌}
+use Rattle.nap_command.specs.Types.{Appends, Failure, IsCutOff, NoneFailed, Reading}
+use Rattle.nap_list.specs.declared.device.Inlet as inlet
+use Rattle.nap_list.specs.declared.device.Outlet as outlet
 
 -- The three devices of a command: the bytes left in the input, those that the output took and those that standard error
 -- took, if they tell them; the number of reads; whether the output was flushed after its last write, and the number of
@@ -45,12 +42,12 @@ reading_of before after = record {
 
 -- why reading the bytes p gave no answer: the input was cut off, or memory ran out
 abbrev pub FailsReading : Reading → List ℕ → Failure → Type 0
-FailsReading r p failure.Read = IsCutOff r p
-FailsReading r p failure.Memory = NoneFailed r
+FailsReading r p Failure.Read = IsCutOff r p
+FailsReading r p Failure.Memory = NoneFailed r
 FailsReading r p _ = ⊥
 
 -- an output that had these bytes took all of the text, or failed after a number of bytes of it
 abbrev pub TakesText : Option (List ℕ) → Option (List ℕ) → List ℕ → Result (Unit {0}) Failure → Type 0
 TakesText old new text (Ok done) = Appends old new text
-TakesText old new text (Err (failure.Write taken)) = (taken ≤ length text) × Appends old new (take taken text)
+TakesText old new text (Err (Failure.Write taken)) = (taken ≤ length text) × Appends old new (take taken text)
 TakesText old new text (Err _) = ⊥

@@ -1,11 +1,5 @@
-use Rattle.std.specs.Prelude.{ℕ, ◌+◌, ◌*◌, ◌≡◌, ◌≢◌, ◌⊎◌, ◌<◌, ◌≤◌, List, [], ◌∷◌, ◌++◌, All, length, take, drop}
-use Rattle.nap_command.specs.Types.{Action, Entry, Question, Refusal, Verdict}
-use Rattle.nap_reader.specs.declared.fault.Fault.TheVariants as fault
-use Rattle.nap_reader.specs.Stream.{begun, means}
-use Rattle.nap_canon.specs.Text.{text}
-use Rattle.nap_command.specs.declared.answer.Verdict.TheVariants as verdict
-use Rattle.nap_command.specs.declared.command.Action.TheVariants as action
-use Rattle.nap_command.specs.declared.failure.Failure.TheVariants as failure
+use Rattle.std.specs.Prelude.{All, List, [], drop, length, take, ℕ, ◌*◌, ◌++◌, ◌+◌, ◌<◌, ◌∷◌, ◌≡◌, ◌≢◌, ◌≤◌, ◌⊎◌}
+use Rattle.nap_command.specs.Types.{Action, Entry, Failure, Fault, Question, Refusal, Verdict, begun, means, text}
 use Rattle.nap_command.specs.Commands.{PrintsBy}
 use Rattle.nap_command.specs.Answers.{DeniesPage, IsAnswer, line_at, page_command, places, question_of, refused_line}
 use Rattle.nap_command.specs.Requests.{IsBegun, IsRequest, StartsNone}
@@ -21,15 +15,15 @@ BegunRequestsAreNone = (bytes : List ℕ) → IsBegun bytes → StartsNone bytes
 
 -- A page is accepted: the line is what `check` prints, and the body what the command prints.
 pub record AsAccepted (act : Action) (budget : ℕ) (p line body : List ℕ) : Type 0 where
-  pub line_is : PrintsBy action.Check (page_command action.Check budget) p line verdict.Accepted
-  pub body_is : PrintsBy act (page_command act budget) p body verdict.Accepted
+  pub line_is : PrintsBy Action.Check (page_command Action.Check budget) p line Verdict.Accepted
+  pub body_is : PrintsBy act (page_command act budget) p body Verdict.Accepted
 
 -- The command refuses a page, as the line says, and the body is empty. Unless memory ran out, `check` prints that line.
 pub record AsRefused (act : Action) (budget : ℕ) (p line body : List ℕ) : Type 0 where
   pub r : Refusal
-  pub denied : DeniesPage act budget p (failure.Refused r)
+  pub denied : DeniesPage act budget p (Failure.Refused r)
   pub line_is : line ≡ refused_line r
-  pub checked : r.fault ≢ fault.Memory → PrintsBy action.Check (page_command action.Check budget) p line verdict.Refused
+  pub checked : r.fault ≢ Fault.Memory → PrintsBy Action.Check (page_command Action.Check budget) p line Verdict.Refused
   pub body_is : body ≡ []
 
 abbrev pub AsCommand : Action → ℕ → List ℕ → List ℕ → List ℕ → Type 0
@@ -38,11 +32,11 @@ AsCommand act budget p line body = AsAccepted act budget p line body ⊎ AsRefus
 -- the line is what `check` prints, and the body is empty
 pub record AsCheck (budget : ℕ) (p line body : List ℕ) : Type 0 where
   pub v : Verdict
-  pub line_is : PrintsBy action.Check (page_command action.Check budget) p line v
+  pub line_is : PrintsBy Action.Check (page_command Action.Check budget) p line v
   pub body_is : body ≡ []
 
 abbrev pub AsAction : Action → ℕ → List ℕ → List ℕ → List ℕ → Type 0
-AsAction action.Check budget p line body = AsCheck budget p line body
+AsAction Action.Check budget p line body = AsCheck budget p line body
 AsAction act budget p line body = AsCommand act budget p line body
 
 -- Each answer has what the command of the same name prints.

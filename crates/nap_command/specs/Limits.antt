@@ -1,8 +1,8 @@
-use Rattle.std.specs.Prelude.{ℕ}
-
 -- The limits of the profile for requests. The law `limits` says that the constants in the code have these values.
 
 -- the greatest number of bytes of a request's line, without LF
+use Rattle.std.specs.Prelude.{ℕ}
+
 abbrev pub request_line_limit : ℕ
 request_line_limit = 24
 

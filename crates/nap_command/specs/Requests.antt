@@ -1,12 +1,10 @@
-use Rattle.std.specs.Prelude.{ℕ, ◌≡◌, ◌≢◌, ◌⊎◌, ◌≤◌, ◌<◌, ◌+◌, List, ◌∷◌, ◌++◌, All, codes, length}
 use Rattle.std.specs.Str.Parse.{IsNumeral, digits_value}
 use Rattle.nap_reader.specs.Budgets.{most_budget}
 use Rattle.nap_make.specs.Cutting.{SplitsAtByte}
 use Rattle.nap_make.specs.Numbers.{digits_limit}
 use Rattle.nap_command.specs.declared.batch.request.RequestFront.{RequestFront}
-use Rattle.nap_command.specs.declared.batch.request.RequestFront.TheVariants as front
+use Rattle.std.specs.Prelude.{All, List, codes, length, ℕ, ◌++◌, ◌+◌, ◌<◌, ◌∷◌, ◌≡◌, ◌≢◌, ◌≤◌, ◌⊎◌}
 use Rattle.nap_command.specs.Types.{Question, RequestLine}
-use Rattle.nap_command.specs.declared.batch.request.Question.TheVariants as question
 use Rattle.nap_command.specs.Limits.{request_line_limit, page_limit}
 
 -- at most eight decimal digits write this number, which is at most `most`
@@ -17,11 +15,11 @@ pub record IsNumber (most : ℕ) (digits : List ℕ) (n : ℕ) : Type 0 where
   pub within : n ≤ most
 
 abbrev pub question_name : Question → List ℕ
-question_name question.Check = codes "check"
-question_name question.List = codes "list"
-question_name question.Canon = codes "canon"
-question_name question.Places = codes "places"
-question_name question.Make = codes "make"
+question_name Question.Check = codes "check"
+question_name Question.List = codes "list"
+question_name Question.Canon = codes "canon"
+question_name Question.Places = codes "places"
+question_name Question.Make = codes "make"
 
 -- the line of a request, without LF
 pub record IsLine (line : List ℕ) (r : RequestLine) : Type 0 where
@@ -83,6 +81,6 @@ pub record IsMore (bytes : List ℕ) (n : ℕ) : Type 0 where
 
 -- what the bytes begin with: a complete request, an incomplete one, or none whatever follows
 abbrev pub IsFront : List ℕ → RequestFront → Type 0
-IsFront bytes (front.Whole r n) = IsWhole bytes r n
-IsFront bytes (front.More n) = IsMore bytes n
-IsFront bytes front.Wrong = NeverStarts bytes
+IsFront bytes (RequestFront.Whole r n) = IsWhole bytes r n
+IsFront bytes (RequestFront.More n) = IsMore bytes n
+IsFront bytes RequestFront.Wrong = NeverStarts bytes

@@ -1,17 +1,13 @@
-use Rattle.std.specs.Prelude.{ℕ, ◌≡◌, ◌≢◌, ◌⊎◌, ◌≤◌, ◌+◌, ◌-◌, ◌^◌, Bool, true, false, List, [], ◌∷◌, ◌++◌, Option, Result, Ok, Err, All, codes, flat_map, length, max, min, take}
-use Rattle.std.specs.Io.KnownBytes.{Appends, Consumes}
-use Rattle.nap_list.specs.declared.device.inlet.Inlet as inlet
-use Rattle.nap_list.specs.declared.device.outlet.Outlet as outlet
+use Rattle.nap_list.specs.declared.device.Inlet as inlet
+use Rattle.nap_list.specs.declared.device.Outlet as outlet
 use Rattle.nap_list.specs.Flushing as flushing
-use Rattle.nap_list.specs.Reading.{Reading}
-use Rattle.nap_command.specs.declared.failure.Failure.TheVariants as failure
+use Rattle.nap_command.specs.Commands.{Reported}
 use Rattle.nap_command.specs.Devices.{Devices}
 use Rattle.nap_command.specs.Failures.{failure_text}
-use Rattle.nap_command.specs.Types.{Ended, Question}
-use Rattle.nap_command.specs.declared.batch.service.Ended.TheVariants as ended
+use Rattle.std.specs.Prelude.{All, Bool, Err, List, Ok, Option, Result, [], codes, false, flat_map, length, max, min, take, true, ℕ, ◌++◌, ◌+◌, ◌-◌, ◌^◌, ◌∷◌, ◌≡◌, ◌≢◌, ◌≤◌, ◌⊎◌}
+use Rattle.nap_command.specs.Types.{Appends, Consumes, Ended, Failure, Question, Reading, read_limit}
 use Rattle.nap_command.specs.Answers.{IsAnswer, answer_text}
 use Rattle.nap_command.specs.Buffering.{Buffered}
-use Rattle.nap_list.specs.Limits.{read_limit}
 use Rattle.nap_command.specs.Limits.{requests_limit}
 use Rattle.nap_command.specs.Requests.{IsRequest}
 use Rattle.nap_command.specs.Waiting.{ReadingEnds}
@@ -50,7 +46,7 @@ abbrev pub SendsText : {O : Type 0} → outlet.Ghosts O → ℕ → List ℕ →
 SendsText o written text before after (Ok n) =
     Appends (o.taken before) (o.taken after) text × (n ≡ count_on written (length text)) × (o.failed after ≡ o.failed before) × (o.sent after ≡ true)
     × (o.failed before ≡ false → o.flushes after ≡ flushed_once (o.flushes before))
-SendsText o written text before after (Err (ended.Write n)) =
+SendsText o written text before after (Err (Ended.Write n)) =
     (part : List ℕ) × Appends (o.taken before) (o.taken after) part × (take (length part) text ≡ part) × (n ≡ count_on written (length part)) × (o.failed after ≡ true)
     × (o.failed before ≡ false → flushing.FlushedOnce o before after)
 SendsText o written text before after (Err _) = ⊥
@@ -115,13 +111,13 @@ reading_between before after = record { left = after.left; failed_before = befor
 -- were as many requests as allowed, a write failed during an answer, or there was no memory before anything was read or
 -- written.
 abbrev pub RunEnds : Pipes → Pipes → List Exchange → List ℕ → List ℕ → Ended → Type 0
-RunEnds before after xs rest part (ended.Write n) =
+RunEnds before after xs rest part (Ended.Write n) =
     (x : Exchange) × (following : List ℕ) × IsExchange x × (rest ≡ x.asked ++ following) × (take (length part) x.answered ≡ part)
     × (n ≡ min (length (flat_map (λ x. x.answered) xs ++ part)) (2 ^ 64 - 1)) × (after.output_failed ≡ true) × (after.input_failed ≡ before.input_failed)
-RunEnds before after xs rest part ended.Request =
-    (part ≡ []) × (ReadingEnds (reading_between before after) rest ended.Request ⊎ ((length xs ≡ requests_limit) × (after.input_failed ≡ before.input_failed)))
+RunEnds before after xs rest part Ended.Request =
+    (part ≡ []) × (ReadingEnds (reading_between before after) rest Ended.Request ⊎ ((length xs ≡ requests_limit) × (after.input_failed ≡ before.input_failed)))
     × (after.output_failed ≡ before.output_failed)
-RunEnds before after xs rest part ended.Memory = (xs ≡ []) × (rest ≡ []) × (part ≡ []) × (after ≡ before)
+RunEnds before after xs rest part Ended.Memory = (xs ≡ []) × (rest ≡ []) × (part ≡ []) × (after ≡ before)
 RunEnds before after xs rest part end = (part ≡ []) × ReadingEnds (reading_between before after) rest end × (after.output_failed ≡ before.output_failed)
 
 -- an output was flushed n times more, saturating at 2^64 - 1
@@ -131,7 +127,7 @@ FlushedTimes n before after = (n ≡ 0 → after ≡ before) × (n ≢ 0 → aft
 -- The number of flushes for a number of answers: one for each. If a write of the next answer failed there is no more;
 -- if its flush failed there is one more.
 abbrev pub flushes_of : Ended → Bool → ℕ → ℕ
-flushes_of (ended.Write n) false answers = answers + 1
+flushes_of (Ended.Write n) false answers = answers + 1
 flushes_of end write_failed answers = answers
 
 -- Requests were answered, one after another, from the devices before to those after, and the run ended like this.
@@ -164,7 +160,7 @@ pub record AnswersRequest (written : ℕ) (old new : Buffered) (before after : P
 
 -- how a run ends where no request is answered
 abbrev pub StopsIn : ℕ → List ℕ → List ℕ → Pipes → Pipes → Ended → Type 0
-StopsIn written rest part before after (ended.Write n) =
+StopsIn written rest part before after (Ended.Write n) =
     (x : Exchange) × (following : List ℕ) × IsExchange x × (rest ≡ x.asked ++ following) × (take (length part) x.answered ≡ part)
     × (n ≡ count_on written (length part)) × (after.output_failed ≡ true) × (after.input_failed ≡ before.input_failed)
     × (before.output_failed ≡ false → after.flushes ≡ flushing.flush_count after.write_failed before.flushes)
@@ -186,20 +182,15 @@ IsExchanged written old new before after (Err end) = StopsServing written old.by
 
 -- what standard error reports of how a run ended
 abbrev pub ended_text : Ended → List ℕ
-ended_text ended.Done = []
-ended_text ended.Request = codes "request fault" ++ 10 ∷ []
-ended_text ended.Read = failure_text failure.Read ++ 10 ∷ []
-ended_text (ended.Write n) = failure_text (failure.Write n) ++ 10 ∷ []
-ended_text ended.Memory = failure_text failure.Memory ++ 10 ∷ []
+ended_text Ended.Done = []
+ended_text Ended.Request = codes "request fault" ++ 10 ∷ []
+ended_text Ended.Read = failure_text Failure.Read ++ 10 ∷ []
+ended_text (Ended.Write n) = failure_text (Failure.Write n) ++ 10 ∷ []
+ended_text Ended.Memory = failure_text Failure.Memory ++ 10 ∷ []
 
 abbrev pub ended_status : Ended → ℕ
-ended_status ended.Done = 0
+ended_status Ended.Done = 0
 ended_status _ = 3
-
--- Standard error took e: all of the line, unless it failed.
-pub record ReportsEnd (e : List ℕ) (failed : Bool) (end : Ended) : Type 0 where
-  pub prefix : take (length e) (ended_text end) ≡ e
-  pub all : failed ≡ false → e ≡ ended_text end
 
 -- The command ran from the devices before to those after, with this exit status.
 pub record Served (before after : Devices) (status : ℕ) : Type 0 where
@@ -207,5 +198,5 @@ pub record Served (before after : Devices) (status : ℕ) : Type 0 where
   pub session : Session (pipes_of before) (pipes_of after) end
   pub e : List ℕ
   pub reported : Appends before.reported after.reported e
-  pub tells : ReportsEnd e after.errors_failed end
+  pub tells : Reported (ended_text end) e after.errors_failed
   pub status_is : status ≡ ended_status end

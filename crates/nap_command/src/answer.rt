@@ -12,7 +12,7 @@ use crate::command::{Action, Command};
 use crate::device::read_whole;
 use crate::failure::Failure;
 use hex::FromHexError;
-use nap_canon::{CanonSink, PageText, page_text, refusal_of_text};
+use nap_canon::{CanonSink, refusal_of_text};
 use nap_lines::LineSink;
 use nap_list::{CountSink, Inlet, Outlet, Target};
 use nap_reader::{Refusal, read_input, read_stream};
@@ -137,34 +137,19 @@ fn canon_text(alloc: Global, hex: bool, text: Vec<u8>) -> Result<Vec<u8>, AllocE
     Ok(text)
 }
 
-/// Returns what `canon` prints of a page whose text was made.
-fn print_page(
+/// Returns what `canon` prints of a page whose text was written to memory as it was read.
+fn print_text(
     alloc: Global,
     hex: bool,
-    found: Result<PageText, Refusal>,
+    found: Result<TextSink, Refusal>,
 ) -> Result<Printout, Failure>
     ensures { MatchResult found
-        (λ t. MatchResult result (λ a. (a.text.items ≡ canon_text hex t.text.items) × (a.verdict ≡ Verdict.Accepted)) (λ f. f ≡ Failure.Memory))
-        (λ r. result ≡ Err (Failure.Refused r)) }
-{
-    match found {
-        Ok(found) => Ok(Printout {
-            text: canon_text(alloc, hex, found.text)?,
-            verdict: Verdict::Accepted,
-        }),
-        Err(refusal) => Err(Failure::Refused(refusal)),
-    }
-}
-
-/// Returns what `canon` prints of a page whose text was written to memory as it was read.
-fn print_text(found: Result<TextSink, Refusal>) -> Result<Printout, Failure>
-    ensures { MatchResult found
-        (λ s. MatchResult result (λ a. (a.text.items ≡ s.outlet.writer.items) × (a.verdict ≡ Verdict.Accepted)) (λ f. f ≡ Failure.Memory))
+        (λ s. MatchResult result (λ a. (a.text.items ≡ canon_text hex s.outlet.writer.items) × (a.verdict ≡ Verdict.Accepted)) (λ f. f ≡ Failure.Memory))
         (λ r. result ≡ Err (Failure.Refused (refusal_of_text r))) }
 {
     match found {
         Ok(sink) => Ok(Printout {
-            text: sink.close().into_inner(),
+            text: canon_text(alloc, hex, sink.close().into_inner())?,
             verdict: Verdict::Accepted,
         }),
         Err(refusal) => Err(Failure::Refused(refusal_of_text(refusal))),
@@ -190,8 +175,8 @@ pub(crate) fn answer_stream(
         }
         Action::Check => print_count(alloc, read_stream(alloc, budget, stream, CountSink::new())),
         Action::Canon => {
-            let found = page_text(alloc, budget, stream)?;
-            print_page(alloc, command.hex, found)
+            let sink = begin_text(Target::new(Vec::new(alloc)))?;
+            print_text(alloc, command.hex, read_stream(alloc, budget, stream, sink))
         }
     }
 }
@@ -206,6 +191,7 @@ fn answer_text(alloc: Global, command: &Command, text: &[u8]) -> Result<Printout
 }
 
 /// Returns what a command prints of the bytes that an input gives, none of which is kept.
+#[inline(never)]
 fn answer_input<I: Inlet>(
     alloc: Global,
     command: &Command,
@@ -238,7 +224,7 @@ fn answer_input<I: Inlet>(
                 input,
                 begin_text(Target::new(Vec::new(alloc)))?,
             )?;
-            print_text(found)
+            print_text(alloc, false, found)
         }
     }
 }

@@ -1,8 +1,6 @@
 //! Many pages through one process: requests and answers (docs/BATCH.md).
 
 mod answer;
-mod body;
-mod input_buffer;
 pub mod laws;
 mod places;
 mod request;
@@ -10,8 +8,7 @@ mod service;
 mod waiting;
 mod written;
 
-pub use answer::{BatchAnswer, answer_page};
-pub use body::Body;
+pub use answer::{BatchAnswer, Body, answer_page};
 pub use places::{PlacesText, read_places};
 pub use request::{PAGE_LIMIT, Question, RequestFront, RequestLine, parse_line, request_front_of};
 pub use service::{Ended, REQUESTS, batch};

@@ -11,6 +11,7 @@ use nap_list::{Inlet, Outlet, READ_SIZE, READS, send_all};
 use std::alloc::Global;
 
 /// Reads an input to its end and returns its bytes.
+#[inline(never)]
 pub(crate) fn read_whole<I: Inlet>(alloc: Global, input: &mut I) -> Result<Vec<u8>, Failure>
     requires { I.calls input.old < 2 ^ 63 }
     ensures read { let seen = reading I.Inlet input.old input.new in

@@ -1,20 +1,48 @@
 //! Execution of a command on its input and outputs (PROFILE.md, The command).
-ghost use Rattle.std.specs.Prelude.{◌≡◌, ◌+◌, ◌<◌, ◌≤◌, ◌^◌, ℕ, List, true, false, Err};
+ghost use Rattle.std.specs.Prelude.{◌≡◌, ◌+◌, ◌<◌, ◌≤◌, ◌^◌, ℕ, List, [], true, false, Ok, Err, MatchResult};
 ghost use Rattle.std.specs.Io.KnownBytes.{Appends, Consumes};
 ghost use Rattle.nap_list.specs.Flushing.{FlushedOnce};
 ghost use Rattle.nap_list.specs.Limits.{reads_limit};
 ghost use Rattle.nap_list.specs.Reading.{reading};
 ghost use Rattle.nap_command.specs.Devices.{devices};
-ghost use Rattle.nap_command.specs.Commands.{EndsWhole, Ran, Reports, verdict_of_conversion};
+ghost use Rattle.nap_command.specs.Commands.{EndsByAction, EndsWhole, IsPrinted, Ran, Reports, verdict_of_conversion};
+ghost use Rattle.nap_command.specs.Making.{EndsMadeWhole, FailsToMake, FindsPage, Made, failure_of, verdict_of_page};
 
-use crate::answer::{Verdict, find_printout};
-use crate::command::Command;
+use crate::answer::{Printout, Verdict, find_printout};
+use crate::command::{Action, Command};
 use crate::device::write_whole;
 use crate::failure::Failure;
-use crate::printing::print_once_read;
+use crate::listing::print_list;
 use nap_canon::{ConvertFault, convert};
 use nap_list::{Inlet, Outlet};
+use nap_make::{ListFault, MakeFault, PageFault, make_page, page_of_input};
 use std::alloc::Global;
+
+/// Executes a command that prints once all of its input is read.
+pub(crate) fn print_once_read<I: Inlet, O: Outlet + Drop>(
+    alloc: Global,
+    command: &Command,
+    input: &mut I,
+    output: O,
+) -> (O, Result<Verdict, Failure>)
+    requires calls { I.calls input.old < 2 ^ 63 }
+    requires works { O.failed output ≡ false }
+    ensures few { I.calls input.new ≤ I.calls input.old + reads_limit }
+    ensures ends { let seen = reading I.Inlet input.old input.new in
+        (p : List ℕ) × (q : List ℕ) × Consumes (I.left input.old) (I.left input.new) p × Appends (O.taken output) (O.taken result.0) q
+        × EndsByAction command.now.action command.now p seen q (O.failed result.0) result.1 }
+    ensures sends { O.failed result.0 ≡ false → O.sent result.0 ≡ true }
+    ensures flushes { FlushedOnce O.Outlet output result.0 }
+{
+    match command.action {
+        Action::List => print_list(alloc, command, input, output),
+        Action::Check | Action::Canon => {
+            let mut output = output;
+            let ended = print_answer(alloc, command, input, &mut output);
+            (output, ended)
+        }
+    }
+}
 
 /// Reports a failure on standard error, and returns its exit status. A failed write to standard error changes nothing.
 pub fn report<E: Outlet>(failure: Failure, errors: &mut E) -> u8
@@ -35,8 +63,30 @@ pub(crate) fn report_end<E: Outlet>(ended: Result<Verdict, Failure>, errors: &mu
     }
 }
 
-/// Prints what a command answers, and flushes the output, also if that is nothing. A failed output replaces an earlier
-/// failure.
+/// Prints what was found, and flushes the output, also if that is nothing. A failed output replaces an earlier failure.
+pub(crate) fn print_found<O: Outlet>(
+    output: &mut O,
+    found: Result<Printout, Failure>,
+) -> Result<Verdict, Failure>
+    requires { O.failed output.old ≡ false }
+    ensures ends { (q : List ℕ) × Appends (O.taken output.old) (O.taken output.new) q
+        × MatchResult found (λ a. IsPrinted a.text.items (Ok a.verdict) q (O.failed output.new) result) (λ f. IsPrinted [] (Err f) q (O.failed output.new) result) }
+    ensures sends { O.failed output.new ≡ false → O.sent output.new ≡ true }
+    ensures flushes { FlushedOnce O.Outlet output.old output.new }
+{
+    match found {
+        Ok(printout) => match write_whole(output, printout.text.as_slice()) {
+            Ok(()) => Ok(printout.verdict),
+            Err(fault) => Err(fault),
+        },
+        Err(failure) => match write_whole(output, &[]) {
+            Ok(()) => Err(failure),
+            Err(fault) => Err(fault),
+        },
+    }
+}
+
+/// Prints what a command answers, and flushes the output.
 pub(crate) fn print_answer<I: Inlet, O: Outlet>(
     alloc: Global,
     command: &Command,
@@ -52,16 +102,8 @@ pub(crate) fn print_answer<I: Inlet, O: Outlet>(
     ensures sends { O.failed output.new ≡ false → O.sent output.new ≡ true }
     ensures flushes { FlushedOnce O.Outlet output.old output.new }
 {
-    match find_printout(alloc, command, input) {
-        Ok(answer) => match write_whole(output, answer.text.as_slice()) {
-            Ok(()) => Ok(answer.verdict),
-            Err(fault) => Err(fault),
-        },
-        Err(failure) => match write_whole(output, &[]) {
-            Ok(()) => Err(failure),
-            Err(fault) => Err(fault),
-        },
-    }
+    let found = find_printout(alloc, command, input);
+    print_found(output, found)
 }
 
 /// Returns how a command ends that converts a page.
@@ -100,6 +142,93 @@ pub fn execute<I: Inlet, O: Outlet + Drop, E: Outlet>(
     }
     let (output, converted) = convert(alloc, input, output, command.budget);
     let ended = verdict_of_conversion(converted);
+    let status = report_end(ended, errors);
+    (output, status)
+}
+
+/// Returns the failure of `make` whose lines make no page. A failed write to memory is lack of memory.
+pub(crate) fn lines_failure(fault: MakeFault) -> Failure
+    ensures { result ≡ failure_of fault }
+{
+    match fault {
+        MakeFault::Line { line, column } => Failure::Line(line as u64, column as u64),
+        MakeFault::Misfit { line } => Failure::Misfit(line as u64),
+        MakeFault::Open { line, opening } => Failure::Open(line as u64, opening as u64),
+        MakeFault::Memory => Failure::Memory,
+        MakeFault::Write => Failure::Memory,
+    }
+}
+
+/// Returns the page that the lines of an input make.
+#[inline(never)]
+fn find_page<I: Inlet>(alloc: Global, input: &mut I) -> Result<Printout, Failure>
+    requires { I.calls input.old < 2 ^ 63 }
+    ensures few { I.calls input.new ≤ I.calls input.old + reads_limit }
+    ensures found { let seen = reading I.Inlet input.old input.new in
+        (p : List ℕ) × Consumes (I.left input.old) (I.left input.new) p
+        × MatchResult result (λ page. FindsPage p seen page.text.items page.verdict) (FailsToMake p seen) }
+{
+    match page_of_input(alloc, input) {
+        Ok(text) => Ok(Printout {
+            text,
+            verdict: Verdict::Accepted,
+        }),
+        Err(ListFault::Lines(fault)) => Err(lines_failure(fault)),
+        Err(ListFault::Read) => Err(Failure::Read),
+    }
+}
+
+/// Prints the page that the lines of an input make, and flushes the output.
+fn print_page<I: Inlet, O: Outlet>(
+    alloc: Global,
+    input: &mut I,
+    output: &mut O,
+) -> Result<Verdict, Failure>
+    requires calls { I.calls input.old < 2 ^ 63 }
+    requires works { O.failed output.old ≡ false }
+    ensures few { I.calls input.new ≤ I.calls input.old + reads_limit }
+    ensures ends { let seen = reading I.Inlet input.old input.new in
+        (p : List ℕ) × (q : List ℕ) × Consumes (I.left input.old) (I.left input.new) p × Appends (O.taken output.old) (O.taken output.new) q
+        × EndsMadeWhole p seen q (O.failed output.new) result }
+    ensures sends { O.failed output.new ≡ false → O.sent output.new ≡ true }
+    ensures flushes { FlushedOnce O.Outlet output.old output.new }
+{
+    let found = find_page(alloc, input);
+    print_found(output, found)
+}
+
+/// Returns how `make` ends that prints as it reads.
+fn verdict_of_page(made: Result<u64, PageFault>) -> Result<Verdict, Failure>
+    ensures { result ≡ verdict_of_page made }
+{
+    match made {
+        Ok(_) => Ok(Verdict::Accepted),
+        Err(PageFault::Lines { fault, .. }) => Err(lines_failure(fault)),
+        Err(PageFault::Read { .. }) => Err(Failure::Read),
+        Err(PageFault::Write { written }) => Err(Failure::Write(written)),
+    }
+}
+
+/// Executes `make` on its input, printing as it reads or at the end. Returns the output and the exit status.
+pub fn execute_make<I: Inlet, O: Outlet + Drop, E: Outlet>(
+    alloc: Global,
+    stream: bool,
+    input: &mut I,
+    output: O,
+    errors: &mut E,
+) -> (O, u8)
+    requires calls { I.calls input.old < 2 ^ 63 }
+    requires works { O.failed output ≡ false }
+    ensures { let seen = devices I.Inlet O.Outlet E.Outlet in
+        Made stream (seen input.old output errors.old) (seen input.new result.0 errors.new) result.1 }
+{
+    if stream {
+        let (output, made) = make_page(alloc, input, output);
+        let status = report_end(verdict_of_page(made), errors);
+        return (output, status);
+    }
+    let mut output = output;
+    let ended = print_page(alloc, input, &mut output);
     let status = report_end(ended, errors);
     (output, status)
 }

@@ -1,13 +1,45 @@
 //! The failures of a command.
-ghost use Rattle.std.specs.Prelude.{◌≡◌, ◌≤◌, ◌+◌, ◌++◌, ◌∷◌, [], codes, decimal, length};
+ghost use Rattle.std.specs.Prelude.{◌≡◌, ◌≤◌, ◌+◌, ◌++◌, ◌∷◌, [], codes, decimal, length, ◌<◌};
 ghost use Rattle.nap_command.specs.declared.failure.Failure.TheVariants.{Memory, Read, Refused, Write};
-ghost use Rattle.nap_command.specs.Failures.{failure_text, refusal_text, status_of};
+ghost use Rattle.nap_command.specs.Failures.{failure_text, refusal_text, status_of, fault_text, left_text};
 
-use crate::name::fault_name;
 use arrayvec::ArrayString;
 use itoa::Buffer;
-use nap_reader::{ReadFault, Refusal};
+use nap_codes::Left;
+use nap_reader::{Fault, ReadFault, Refusal};
 use std::alloc::AllocError;
+
+/// Returns the name of a code that is left out, after that of its refusal.
+fn left_name(left: Left) -> &'static str
+    ensures name { result.now ≡ codes "LeftOut " ++ left_text left }
+    ensures short { length result.now < 32 }
+{
+    match left {
+        Left::Can => "LeftOut CAN",
+        Left::Sdc => "LeftOut SDC",
+        Left::Nsr => "LeftOut NSR",
+        Left::Deft => "LeftOut DEFT",
+        Left::Unprotect => "LeftOut UNPROTECT",
+        Left::Edc1 => "LeftOut EDC1",
+        Left::Edc2 => "LeftOut EDC2",
+        Left::Edc3 => "LeftOut EDC3",
+        Left::Edc4 => "LeftOut EDC4",
+        Left::IncrementalPoint => "LeftOut INCREMENTAL-POINT",
+        Left::IncrementalLine => "LeftOut INCREMENTAL-LINE",
+        Left::IncrementalPoly => "LeftOut INCREMENTAL-POLY",
+    }
+}
+
+/// Returns the name of a refusal as the program prints it, with the name of a code that is left out.
+pub fn fault_name(fault: Fault) -> &'static str
+    ensures name { result.now ≡ fault_text fault }
+    ensures short { length result.now < 32 }
+{
+    match fault {
+        Fault::LeftOut(left) => left_name(left),
+        fault => fault.name(),
+    }
+}
 
 /// The greatest number of bytes of the line of a failure, rounded up.
 pub const FAILURE_LINE_SIZE: usize = 96;

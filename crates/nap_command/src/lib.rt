@@ -9,14 +9,9 @@ mod device;
 mod execution;
 mod failure;
 mod listing;
-mod make;
-mod name;
-mod printing;
 
 pub use answer::Verdict;
 pub use command::{Action, Command};
 pub use device::write_whole;
-pub use execution::{execute, report};
-pub use failure::{FAILURE_LINE_SIZE, Failure};
-pub use make::execute_make;
-pub use name::fault_name;
+pub use execution::{execute, execute_make, report};
+pub use failure::{FAILURE_LINE_SIZE, Failure, fault_name};

@@ -9,7 +9,8 @@ ghost use Rattle.nap_command.specs.Commands.{EndsListed, EndsSo, Fails, IsStream
 
 use crate::answer::{Verdict, bytes_of_hex};
 use crate::command::{Action, Command};
-use crate::device::{read_whole, write_whole};
+use crate::device::read_whole;
+use crate::execution::print_found;
 use crate::failure::Failure;
 use nap_lines::{LINE_MEMORY, LinePrinter};
 use nap_list::{CountSink, Inlet, Outlet};
@@ -129,10 +130,8 @@ pub(crate) fn print_list<I: Inlet, O: Outlet + Drop>(
         Ok(kept) => print_lines(alloc, command, kept, output),
         Err(failure) => {
             let mut output = output;
-            match write_whole(&mut output, &[]) {
-                Ok(()) => (output, Err(failure)),
-                Err(fault) => (output, Err(fault)),
-            }
+            let ended = print_found(&mut output, Err(failure));
+            (output, ended)
         }
     }
 }

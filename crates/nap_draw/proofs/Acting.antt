@@ -1,6 +1,4 @@
-use Rattle.nap_draw.proofs.Common.{Acts, ActsByRule, AllFit, AppliesControl, Bool, Cause, DrawFault, DrawsBy, Entry, Err, Fills, Ghosts, GivesSome, IsErrAnd, IsErrOf, List, None, Ok, Opcode, Option, PutsList, Result, RuleRefuses, RuleResult, SetsWork, SinkFault, Some, State, StatesAgree, WantsBy, WantsMore, Work, [], ap, clears_nothing, device, draw_cause, false, fault_of, inl, inr, memory, refl, rule, sink_model_of, some_breaks, some_stops, some_wants, stream, subst, sym, true, walk, ℕ, ◌∙◌, ◌≡◌, ◌≢◌, ◌⊎◌}
-use Rattle.nap_list.specs.declared.sink.SinkFault.TheVariants as sink_faults
-use Rattle.nap_draw.specs.declared.fault.DrawFault.TheVariants as faults
+use Rattle.nap_draw.proofs.Common.{Acts, ActsByRule, ActsFully, AllFit, AppliesControl, Bool, Cause, DrawFault, DrawsBy, Entry, Err, Fills, Ghosts, GivesSome, IsErrAnd, IsErrOf, List, None, Ok, Opcode, Option, PutsList, Result, RuleRefuses, RuleResult, SetsWork, SinkFault, Some, State, StatesAgree, WantsBy, WantsMore, Work, [], ap, clears_nothing, device, draw_cause, false, fault_of, inl, inr, memory, refl, rule, sink_model_of, some_breaks, some_stops, some_wants, stream, subst, sym, true, walk, ℕ, ◌∙◌, ◌≡◌, ◌≢◌, ◌⊎◌}
 
 -- The steps in which a code is executed, put together.
 
@@ -20,13 +18,13 @@ module _ {S : Type 0} (g : Ghosts S) (s : S) (none : g.took s [] s) where
   drawn_not by fault memory refused = absurd refused
   drawn_not by fault device refused = absurd refused
 
-  never_device : (by : Result RuleResult DrawFault) (fault : DrawFault) → RuleRefuses by fault (draw_cause fault) → fault ≡ faults.Sink → g.failed s ≡ true
+  never_device : (by : Result RuleResult DrawFault) (fault : DrawFault) → RuleRefuses by fault (draw_cause fault) → fault ≡ DrawFault.Sink → g.failed s ≡ true
   never_device by fault refused is = absurd (subst (λ (fault : DrawFault). RuleRefuses by fault (draw_cause fault)) is refused)
 
-  never_memory : (by : Result RuleResult DrawFault) (fault : DrawFault) → RuleRefuses by fault (draw_cause fault) → fault ≡ faults.Memory → ⊥
+  never_memory : (by : Result RuleResult DrawFault) (fault : DrawFault) → RuleRefuses by fault (draw_cause fault) → fault ≡ DrawFault.Memory → ⊥
   never_memory by fault refused is = subst (λ (fault : DrawFault). RuleRefuses by fault (draw_cause fault)) is refused
 
-  still : (fault : DrawFault) → g.failed s ≡ false → g.failed s ≡ true → fault ≡ faults.Sink
+  still : (fault : DrawFault) → g.failed s ≡ false → g.failed s ≡ true → fault ≡ DrawFault.Sink
   still fault clear failed = let bad : ⊥ = cc in absurd bad
 
   -- an opcode that puts nothing
@@ -45,18 +43,18 @@ module _ {S : Type 0} (g : Ghosts S) (s : S) (none : g.took s [] s) where
 
   -- a run wasn't decoded
   unfilled : {A : Type 0} (short : Type 0) (by : Result RuleResult DrawFault) (w : Work) (all : Option (List A)) (fault : DrawFault) (f : Option (List A) → Result RuleResult DrawFault) →
-      by ≡ f all → f None ≡ Err faults.Outside → ((xs : List A) → (d : RuleResult) × (f (Some xs) ≡ Ok d)) → Fills all [] (Err fault) → (fault ≡ faults.Memory → short) →
+      by ≡ f all → f None ≡ Err DrawFault.Outside → ((xs : List A) → (d : RuleResult) × (f (Some xs) ≡ Ok d)) → Fills all [] (Err fault) → (fault ≡ DrawFault.Memory → short) →
       ActsByRule {A = Unit {0}} g clears_nothing short by w w s s (Err fault)
-  unfilled short by w all faults.Outside f is outside inside fills lacks =
+  unfilled short by w all DrawFault.Outside f is outside inside fills lacks =
       (refl, (is ∙ (ap f fills ∙ outside), refl), λ e. (let bad : ⊥ = cc in absurd bad), λ clear failed. (let bad : ⊥ = cc in absurd bad), λ e. (let bad : ⊥ = cc in absurd bad))
-  unfilled short by w all faults.Memory f is outside inside fills lacks =
+  unfilled short by w all DrawFault.Memory f is outside inside fills lacks =
       let made = inside fills.0 in
       (refl, (made.0, is ∙ (ap f fills.1 ∙ made.1), inl refl), λ e. (let bad : ⊥ = cc in absurd bad), λ clear failed. (let bad : ⊥ = cc in absurd bad), λ _. inl (lacks refl))
   unfilled short by w all _ f is outside inside fills lacks = absurd fills
 
   pub does_unfilled : {A : Type 0} (short : Type 0) (by : Result RuleResult DrawFault) (w : Work) (all : Option (List A)) (fault : DrawFault) (r : Result (Unit {0}) DrawFault) →
-      IsErrAnd r (λ e. e ≡ fault) → (f : Option (List A) → Result RuleResult DrawFault) → by ≡ f all → f None ≡ Err faults.Outside → ((xs : List A) → (d : RuleResult) × (f (Some xs) ≡ Ok d)) →
-      Fills all [] (Err fault) → (fault ≡ faults.Memory → short) → ActsByRule g clears_nothing short by w w s s r
+      IsErrAnd r (λ e. e ≡ fault) → (f : Option (List A) → Result RuleResult DrawFault) → by ≡ f all → f None ≡ Err DrawFault.Outside → ((xs : List A) → (d : RuleResult) × (f (Some xs) ≡ Ok d)) →
+      Fills all [] (Err fault) → (fault ≡ DrawFault.Memory → short) → ActsByRule g clears_nothing short by w w s s r
   does_unfilled short by w all fault r is f acts outside inside fills lacks = passed (ActsByRule g clears_nothing short by w w s s) fault r is (unfilled short by w all fault f acts outside inside fills lacks)
 
 module _ {S : Type 0} (g : Ghosts S) where
@@ -68,14 +66,14 @@ module _ {S : Type 0} (g : Ghosts S) where
   -- one of the rule's entries wasn't taken
   stopped : {A : Type 0} (clears : A → Bool) (short : Type 0) (by : Result RuleResult DrawFault) (w : Work) (s t : S) (d : RuleResult) (e : SinkFault) →
       by ≡ Ok d → PutsList {S = S} {A = Unit {0}} g d.entries s t (Err e) → ActsByRule g clears short by w w s t (Err (fault_of e))
-  stopped clears short by w s t d sink_faults.Memory is put = (
+  stopped clears short by w s t d SinkFault.Memory is put = (
     refl,
     (d, is, inr (some_stops (sink_model_of g) (Unit {0}) s t d.entries put)),
     λ e. (let bad : ⊥ = cc in absurd bad),
     λ clear failed. let bad : ⊥ = cc (put.2.memory refl, failed) in absurd bad,
     λ _. inr (_, put.1.wants),
   )
-  stopped clears short by w s t d sink_faults.Write is put = (refl, (d, is, some_breaks (sink_model_of g) (Unit {0}) s t d.entries put), λ _. put.2.write refl, λ clear failed. refl, λ e. (let bad : ⊥ = cc in absurd bad))
+  stopped clears short by w s t d SinkFault.Write is put = (refl, (d, is, some_breaks (sink_model_of g) (Unit {0}) s t d.entries put), λ _. put.2.write refl, λ clear failed. refl, λ e. (let bad : ⊥ = cc in absurd bad))
 
   pub does_stop : {A : Type 0} (clears : A → Bool) (short : Type 0) (by : Result RuleResult DrawFault) (w : Work) (s t : S) (d : RuleResult) (e : SinkFault) (r : Result A DrawFault) → IsErrAnd r (λ f. f ≡ fault_of e) →
       by ≡ Ok d → PutsList {S = S} {A = Unit {0}} g d.entries s t (Err e) → ActsByRule g clears short by w w s t r
@@ -104,30 +102,30 @@ module _ {S : Type 0} (g : Ghosts S) where
 
   -- a character or a control
 
-  pub obeys_put : (by : Result RuleResult DrawFault) (w v : Work) (s t : S) (list : List Entry) →
-      by ≡ Ok (record { entries = list; work = v; clears = false }) → PutsList {S = S} {A = Unit {0}} g list s t (Ok tt) → AppliesControl g by w v s t (Ok tt)
-  obeys_put by w v s t list is put = record {
-    does = does_put clears_nothing ⊥ by w v s t list (tt {0}) is put;
+  -- the rule's entries were taken
+  pub obeys_fully : (by : Result RuleResult DrawFault) (w v : Work) (s t : S) → ActsFully g by w v s t → AppliesControl g by w v s t (Ok tt)
+  obeys_fully by w v s t does = record {
+    does = does;
     wants = λ e. let bad : ⊥ = cc in absurd bad;
     gives = λ e. let bad : ⊥ = cc in absurd bad;
   }
+
+  pub obeys_put : (by : Result RuleResult DrawFault) (w v : Work) (s t : S) (list : List Entry) →
+      by ≡ Ok (record { entries = list; work = v; clears = false }) → PutsList {S = S} {A = Unit {0}} g list s t (Ok tt) → AppliesControl g by w v s t (Ok tt)
+  obeys_put by w v s t list is put = obeys_fully by w v s t (does_put clears_nothing ⊥ by w v s t list (tt {0}) is put)
 
   pub obeys_stop : (by : Result RuleResult DrawFault) (w : Work) (s t : S) (d : RuleResult) (e : SinkFault) (r : Result (Unit {0}) DrawFault) → IsErrAnd r (λ f. f ≡ fault_of e) →
       g.took s [] s → WantsMore (sink_model_of g) → by ≡ Ok d → d.entries ≢ [] → PutsList {S = S} {A = Unit {0}} g d.entries s t (Err e) → AppliesControl g by w w s t r
   obeys_stop by w s t d e r is none more drawn some put =
       passed (AppliesControl g by w w s t) (fault_of e) r is (record { does = stopped clears_nothing ⊥ by w s t d e drawn put; wants = wanting e put; gives = λ _. subst GivesSome (sym drawn) some })
     where
-      wanting : (e : SinkFault) → PutsList {S = S} {A = Unit {0}} g d.entries s t (Err e) → IsErrOf {T = Unit {0}} (Err (fault_of e)) faults.Memory → WantsBy g by s t
-      wanting sink_faults.Memory put _ = subst (λ (by : Result RuleResult DrawFault). WantsBy g by s t) (sym drawn) (record { wants = some_wants (sink_model_of g) (Unit {0}) s t d.entries none more put; stops = some_stops (sink_model_of g) (Unit {0}) s t d.entries put })
-      wanting sink_faults.Write put e = let bad : ⊥ = cc in absurd bad
+      wanting : (e : SinkFault) → PutsList {S = S} {A = Unit {0}} g d.entries s t (Err e) → IsErrOf {T = Unit {0}} (Err (fault_of e)) DrawFault.Memory → WantsBy g by s t
+      wanting SinkFault.Memory put _ = subst (λ (by : Result RuleResult DrawFault). WantsBy g by s t) (sym drawn) (record { wants = some_wants (sink_model_of g) (Unit {0}) s t d.entries none more put; stops = some_stops (sink_model_of g) (Unit {0}) s t d.entries put })
+      wanting SinkFault.Write put e = let bad : ⊥ = cc in absurd bad
 
   -- nothing is put
   pub obeys_quietly : (by : Result RuleResult DrawFault) (w v : Work) (s : S) → g.took s [] s → by ≡ Ok (record { entries = []; work = v; clears = false }) → AppliesControl g by w v s s (Ok tt)
-  obeys_quietly by w v s none is = record {
-    does = sets_does g s none ⊥ by w v (Ok tt) is;
-    wants = λ e. let bad : ⊥ = cc in absurd bad;
-    gives = λ e. let bad : ⊥ = cc in absurd bad;
-  }
+  obeys_quietly by w v s none is = obeys_fully by w v s s (sets_does g s none ⊥ by w v (Ok tt) is)
 
   -- what a code did, as a caller sees it
 

@@ -1,8 +1,5 @@
 use Rattle.nap_draw.proofs.Common.{All-append, All-cons, All-nil, AllInRange, Bool, CodeValuesAreInRange, DrawFault, Entry, HandInRange, IfSome, InRange, IsByte, IsCode, IsMade, LastChar, None, Ok, OpenDefinition, Option, Result, RuleResult, Some, State, StateInRange, StepInRange, StepMade, TextInRange, TextLook, TextStep, Work, [], after, arith, char_on, code_rule, definition_ended, definition_ended_by, definition_result, hand_of, look_result, repeated_chars, subst, suc, with_last, zero, ℕ, ◌∷◌}
 use Rattle.nap_codes.specs.declared.code.Code.{Code}
-use Rattle.nap_codes.specs.declared.code.Code.TheVariants as codes
-use Rattle.nap_codes.specs.declared.control.TextStep.TheVariants as steps
-use Rattle.nap_list.specs.declared.entry.Entry.TheVariants as entries
 use Rattle.nap_draw.proofs.WalkRanges.{after_ranged, walk_ranged}
 use Rattle.nap_draw.proofs.RangeLemmas.{Ranged, silent_ranged, list_ranged, one_ranged}
 
@@ -12,7 +9,7 @@ byte : (code : ℕ) → IsCode code → IsByte code
 byte code made = omega (arith, made.1)
 
 step_ranged : (step : TextStep) → StepMade step → StepInRange step
-step_ranged (steps.Aps a b) made = (byte a made.0, byte b made.1)
+step_ranged (TextStep.Aps a b) made = (byte a made.0, byte b made.1)
 step_ranged _ made = tt
 
 hand_ranged : (s : State) → StateInRange s → HandInRange (hand_of s.drawing)
@@ -41,7 +38,7 @@ module _ (work : Work) (r : StateInRange work.state) where
 
   ended_ranged : (o : Option OpenDefinition) → Ranged (Ok (definition_ended_by work o))
   ended_ranged None = list_ranged work r [] (All-nil InRange)
-  ended_ranged (Some opened) = one_ranged work r entries.DefEnd tt
+  ended_ranged (Some opened) = one_ranged work r Entry.DefEnd tt
 
   opens_ranged : (e : Entry) → InRange e → Ranged (definition_result work e)
   opens_ranged e here =
@@ -50,23 +47,23 @@ module _ (work : Work) (r : StateInRange work.state) where
       (All-append InRange (definition_ended work).entries (e ∷ []) before.0 one, walk_ranged (definition_ended work).work.state (e ∷ []) before.1 one)
 
   code_ranged : (code : Code) → IsMade code → Ranged (code_rule work code)
-  code_ranged (codes.Char set code) made = one_ranged work r _ (byte code made, hand_ranged work.state r)
-  code_ranged (codes.Step step) made = one_ranged work r _ (step_ranged step made, hand_ranged work.state r)
-  code_ranged codes.Clear made = one_ranged work r (entries.Clear work.state.drawing.pen) r.drawing.pen
-  code_ranged codes.Bell made = one_ranged work r entries.Bell tt
-  code_ranged (codes.Repeat count) made = last_ranged work.state.last _ r.last (λ last code. list_ranged work r _ (copies_ranged work.state last count r code))
-  code_ranged codes.ToEol made = last_ranged work.state.last _ r.last (λ last code. one_ranged work r (entries.ToEol (hand_of work.state.drawing)) (hand_ranged work.state r))
-  code_ranged (codes.BlinkMark on) made = one_ranged work r (entries.BlinkMark on work.state.drawing.colour) r.drawing.colour
-  code_ranged (codes.Cursor kind) made = one_ranged work r (entries.Cursor kind) tt
-  code_ranged (codes.Named size) made = looks_ranged _ (record { first = r.drawing.text.first; second = r.drawing.text.second; size = tt })
-  code_ranged (codes.Reverse on) made = let look = work.state.drawing.text in flags_ranged on look.underline look.wrap look.scroll
-  code_ranged (codes.Underline on) made = let look = work.state.drawing.text in flags_ranged look.reverse on look.wrap look.scroll
-  code_ranged (codes.Wrap on) made = let look = work.state.drawing.text in flags_ranged look.reverse look.underline on look.scroll
-  code_ranged (codes.Scroll on) made = let look = work.state.drawing.text in flags_ranged look.reverse look.underline look.wrap on
-  code_ranged (codes.DefGlyph code) made = opens_ranged (entries.GlyphStart code) (byte code made)
-  code_ranged (codes.DefMask mask) made = opens_ranged (entries.MaskStart mask) tt
-  code_ranged (codes.DefMacro name show) made = ended_ranged work.state.definition
-  code_ranged codes.End made = ended_ranged work.state.definition
+  code_ranged (Code.Char set code) made = one_ranged work r _ (byte code made, hand_ranged work.state r)
+  code_ranged (Code.Step step) made = one_ranged work r _ (step_ranged step made, hand_ranged work.state r)
+  code_ranged Code.Clear made = one_ranged work r (Entry.Clear work.state.drawing.pen) r.drawing.pen
+  code_ranged Code.Bell made = one_ranged work r Entry.Bell tt
+  code_ranged (Code.Repeat count) made = last_ranged work.state.last _ r.last (λ last code. list_ranged work r _ (copies_ranged work.state last count r code))
+  code_ranged Code.ToEol made = last_ranged work.state.last _ r.last (λ last code. one_ranged work r (Entry.ToEol (hand_of work.state.drawing)) (hand_ranged work.state r))
+  code_ranged (Code.BlinkMark on) made = one_ranged work r (Entry.BlinkMark on work.state.drawing.colour) r.drawing.colour
+  code_ranged (Code.Cursor kind) made = one_ranged work r (Entry.Cursor kind) tt
+  code_ranged (Code.Named size) made = looks_ranged _ (record { first = r.drawing.text.first; second = r.drawing.text.second; size = tt })
+  code_ranged (Code.Reverse on) made = let look = work.state.drawing.text in flags_ranged on look.underline look.wrap look.scroll
+  code_ranged (Code.Underline on) made = let look = work.state.drawing.text in flags_ranged look.reverse on look.wrap look.scroll
+  code_ranged (Code.Wrap on) made = let look = work.state.drawing.text in flags_ranged look.reverse look.underline on look.scroll
+  code_ranged (Code.Scroll on) made = let look = work.state.drawing.text in flags_ranged look.reverse look.underline look.wrap on
+  code_ranged (Code.DefGlyph code) made = opens_ranged (Entry.GlyphStart code) (byte code made)
+  code_ranged (Code.DefMask mask) made = opens_ranged (Entry.MaskStart mask) tt
+  code_ranged (Code.DefMacro name show) made = ended_ranged work.state.definition
+  code_ranged Code.End made = ended_ranged work.state.definition
   code_ranged _ made = list_ranged work r [] (All-nil InRange)
 
 pub code_values_are_in_range : CodeValuesAreInRange

@@ -1,19 +1,16 @@
 -- What the proofs of this crate name of its specs, of other crates and of std.
 pub use Rattle.nap_codes.proofs.PublicLaws.{format_effector_front}
-pub use Rattle.nap_codes.specs.Tables.{format_effector}
+pub use Rattle.nap_draw.specs.Names.{Agrees, AllInRange, Area, AreaInRange, Attributes, Base, BaseInRange, CharSet, CharSize, Code, Colour, ColourAgrees, ColourInRange, Components, Coordinates, Course, Definition, Displacement, Drawing, DrawingInRange, Entry, EqualCurrent, Fits, Ghosts, Hand, HandInRange, HasSixteenBitParts, InRange, Ink, InkInRange, IsAddress, IsByte, IsCode, IsInRange, IsInSquare, IsTextByte, IsWord, LastChar, MapColour, MapColourInRange, MaskFits, MayCome, ModeZeroIsBase, Opcode, OpenDefinition, OpenedInRange, OperandLengths, Pen, PenInRange, ShapeKind, SinkFault, SizeInRange, State, StateInRange, StatesAgree, StepInRange, StepMade, TakesAll, TextInRange, TextLook, TextStep, Texture, TextureFits, TextureInRange, Vec, WantsMore, WellMade, after, attributes, base_after, chunks_exact_rest, chunks_exact_size, chunks_rest, chunks_size, circle_closed, colour_code, colour_of, colour_only, corner, definition_after, displaced_point, div_ceil, effect_on_drawing, format_effector, hand_attributes, hand_of, ink_attributes, ink_of, is_err, is_known, is_ok, known_after, known_after_reset, last_after, last_char_of_text, multi_of, no_attributes, one_fits, one_goes, one_put, one_stops, operand_words, outline, pen_only, point_at, point_entry, points_limit, put_begins, put_ends, reset, rest_put, restored_drawing, shape_end, shape_on, single_of, sink_model_of, some_breaks, some_put, some_stops, some_wants, start_drawing, start_text, start_texture, steps_limit, text_entry, text_entry_as, vec_capacity, vec_len, with_attributes, with_colour, with_known_colour, with_pen, with_pen_at, without_address}
 unfoldable pub use Rattle.nap_codes.specs.Tables.{left_out_opcode}
-pub use Rattle.nap_codes.specs.declared.code_set.CharSet.{CharSet}
-pub use Rattle.nap_codes.specs.declared.control.TextStep.{TextStep}
-pub use Rattle.nap_codes.specs.declared.opcode.Opcode.{Opcode}
 pub use Rattle.nap_draw.specs.Acts.{Acts, GivesSome, WantsBy, clears_macros}
 pub use Rattle.nap_draw.specs.Codes.{IsMade, char_on, code_as, code_rule, definition_ended, definition_ended_by, definition_opened, definition_result, look_result, one_entry_result, with_last}
 unfoldable pub use Rattle.nap_draw.specs.Codes.{drawn_text, repeated_chars}
-pub use Rattle.nap_draw.specs.Counted.{Arrives, Displaces}
+pub use Rattle.nap_draw.specs.Counted.{ActsFully, Arrives, Displaces}
 pub use Rattle.nap_draw.specs.Draws.{Cause, DrawsBy, device, draw_cause, fault_of, memory, stream}
 pub use Rattle.nap_draw.specs.Execution.{ActsByRule, AppliesControl, Filling, Fills, Holding, LacksPlaces, MayFollow, PutsList, PutsSoFar, RuleRefuses, SetsWork, chain_spans, clears_nothing, definition_start, displaced_points, figure_end, figure_entry, shape_from, shape_result, start_size, with_pen_moved, with_pen_moved_to}
 unfoldable pub use Rattle.nap_draw.specs.Execution.{pair_spans, rect_spans, span_ends}
-pub use Rattle.nap_draw.specs.Geometry.{arc_points, cons_if_all, poly_points, span, span_by}
 unfoldable pub use Rattle.nap_draw.specs.Geometry.{absolute_spans, last_or, points_at, points_reached, polyline_spans, rect_chain_spans, relative_spans}
+pub use Rattle.nap_draw.specs.Geometry.{arc_points, cons_if_all, poly_points, span, span_by}
 pub use Rattle.nap_draw.specs.Joining.{AreWholeOperands, RunsJoin}
 pub use Rattle.nap_draw.specs.Laws.{CodeFits, CodeValuesAreInRange, DrawnValuesAreInRange, NoOperands, OpcodesAreDrawn, RuleFits, TextByteRule, WholeOperandFirst}
 pub use Rattle.nap_draw.specs.Limits.{run_limit}
@@ -21,66 +18,24 @@ pub use Rattle.nap_draw.specs.Operands.{addresses, moves}
 unfoldable pub use Rattle.nap_draw.specs.Operands.{cut_operands, operands}
 pub use Rattle.nap_draw.specs.Rule.{RuleResult, and_then, arc_on, area_of, area_part, at_least_one, at_most_limit, blink, blink_rule, blinks, colour_of_base, complete_pairs, domain_in, domain_rule, entries_result, entry_result, field_on, field_rule, first_and_more, first_move, from_pen, map_rule, moves_of, pen_point, pen_result, poly_on, rect_on, reset_rule, rule, rule_result, select_rule, selected_colour, set_color_rule, set_color_under, shape_from_pen, shape_from_point, span_line_entry, start_domain, text_rule, texture_rule, with_domain, with_drawing, with_map_colour, with_operands}
 pub use Rattle.nap_draw.specs.declared.fault.DrawFault.{DrawFault}
-pub use Rattle.nap_draw.specs.declared.shapes.ShapeStart.{ShapeStart}
-pub use Rattle.nap_draw.specs.declared.spans.Figure.{Figure}
-pub use Rattle.nap_draw.specs.declared.spans.Span.{Span}
+pub use Rattle.nap_draw.specs.declared.figures.ShapeStart.{ShapeStart}
+pub use Rattle.nap_draw.specs.declared.figures.Figure.{Figure}
+pub use Rattle.nap_draw.specs.declared.figures.Span.{Span}
 pub use Rattle.nap_draw.specs.declared.work.Work.{Work}
 pub use Rattle.nap_list.proofs.PublicLaws.{agreeing_fits, fits_join, taking_nothing, text_leaves, typed_made, walks_join}
-pub use Rattle.nap_list.specs.Agreement.{Agrees, ColourAgrees, EqualCurrent, ModeZeroIsBase, StatesAgree}
-pub use Rattle.nap_list.specs.Batches.{IsTextByte, last_char_of_text, point_entry, text_entry, text_entry_as}
 unfoldable pub use Rattle.nap_list.specs.Batches.{polyline_entries, text_entries_in}
-pub use Rattle.nap_list.specs.Entry.{IsCode, StepMade, WellMade, attributes, colour_only, hand_attributes, ink_attributes, no_attributes, pen_only}
-pub use Rattle.nap_list.specs.Known.{colour_code, is_known, known_after_reset, with_known_colour, without_address}
-pub use Rattle.nap_list.specs.Limits.{points_limit, steps_limit}
-pub use Rattle.nap_list.specs.Putting.{WantsMore}
-pub use Rattle.nap_list.specs.PuttingLaws.{one_fits, one_goes, one_put, one_stops, put_begins, put_ends, rest_put, some_breaks, some_put, some_stops, some_wants}
-pub use Rattle.nap_list.specs.Range.{AllInRange, AreaInRange, BaseInRange, ColourInRange, DrawingInRange, HandInRange, InRange, InkInRange, IsAddress, IsByte, MapColourInRange, OpenedInRange, PenInRange, SizeInRange, StateInRange, StepInRange, TextInRange, TextureInRange}
-pub use Rattle.nap_list.specs.Shapes.{circle_closed, outline, shape_end, shape_on}
-pub use Rattle.nap_list.specs.SinkModels.{sink_model_of}
-pub use Rattle.nap_list.specs.State.{Fits, MaskFits, MayCome, TextureFits, after, base_after, corner, definition_after, effect_on_drawing, hand_of, ink_of, known_after, last_after, reset, restored_drawing, start_drawing, start_text, start_texture, with_attributes, with_colour, with_pen, with_pen_at}
 unfoldable pub use Rattle.nap_list.specs.State.{AllFit, walk}
-pub use Rattle.nap_list.specs.declared.attribute.Area.{Area}
-pub use Rattle.nap_list.specs.declared.attribute.Attributes.{Attributes}
-pub use Rattle.nap_list.specs.declared.attribute.Base.{Base}
-pub use Rattle.nap_list.specs.declared.attribute.CharSize.{CharSize}
-pub use Rattle.nap_list.specs.declared.attribute.Colour.{Colour}
-pub use Rattle.nap_list.specs.declared.attribute.Hand.{Hand}
-pub use Rattle.nap_list.specs.declared.attribute.Ink.{Ink}
-pub use Rattle.nap_list.specs.declared.attribute.Pen.{Pen}
-pub use Rattle.nap_list.specs.declared.attribute.TextLook.{TextLook}
-pub use Rattle.nap_list.specs.declared.attribute.Texture.{Texture}
-pub use Rattle.nap_list.specs.declared.entry.Entry.{Entry}
-pub use Rattle.nap_list.specs.declared.known.MapColour.{MapColour}
-pub use Rattle.nap_list.specs.declared.shape.ShapeKind.{ShapeKind}
-pub use Rattle.nap_list.specs.declared.sink.Sink.{Ghosts}
-pub use Rattle.nap_list.specs.declared.sink.SinkFault.{SinkFault}
-pub use Rattle.nap_list.specs.declared.state.Definition.{Definition}
-pub use Rattle.nap_list.specs.declared.state.Drawing.{Drawing}
-pub use Rattle.nap_list.specs.declared.state.LastChar.{LastChar}
-pub use Rattle.nap_list.specs.declared.state.OpenDefinition.{OpenDefinition}
-pub use Rattle.nap_list.specs.declared.state.State.{State}
 pub use Rattle.nap_values.proofs.PublicLaws.{displacements_are_unique, points_are_inside, values_are_in_range}
-pub use Rattle.nap_values.specs.Coarse.{Course}
-pub use Rattle.nap_values.specs.Colours.{Components, HasSixteenBitParts}
-pub use Rattle.nap_values.specs.Coordinates.{Coordinates, Displacement, IsInRange, IsInSquare, displaced_point, point_at}
-pub use Rattle.nap_values.specs.Domains.{OperandLengths}
-pub use Rattle.nap_values.specs.Laws.{IsWord}
-pub use Rattle.nap_values.specs.Operands.{colour_of, multi_of, operand_words, single_of}
-pub use Rattle.std.proofs.Common.{All, Bool, Err, IfErr, IfOk, IfSome, IsErrAnd, IsErrOf, IsSome, List, None, Ok, OnErr, Option, Result, Some, [], add-one, ap, append-nil, append_assoc, ap₂, arith, cond, drop, drop-cons, eqb, false, get_or, inl, inr, is_some, leb, length, length-append, length-drop, length-set, length-take, ltb, map, min, nat_lt, option_map, refl, replicate, rules, subst, suc, suc-mul, sym, take, take-append-drop, true, unwrap_or, zero, ℕ, ◌%◌, ◌*◌, ◌++◌, ◌+◌, ◌-◌, ◌/◌, ◌<◌, ◌||◌, ◌∙◌, ◌∷◌, ◌≡◌, ◌≢◌, ◌≤◌, ◌⊎◌}
+pub use Rattle.std.proofs.Common.{All, Bool, Err, IfErr, IfOk, IfSome, IsErrAnd, IsErrOf, IsSome, List, None, Ok, OnErr, Option, Result, Some, [], add-one, ap, append-nil, append_assoc, ap₂, arith, cond, drop, drop-cons, eqb, false, get_or, inl, inr, is_some, leb, length, length-append, length-drop, length-set, length-take, ltb, map, min, nat_lt, option_map, refl, replicate, rules, subst, suc, suc-mul, sym, take, take-append-drop, true, unwrap_or, zero, ℕ, ◌%◌, ◌&&◌, ◌*◌, ◌++◌, ◌+◌, ◌-◌, ◌/◌, ◌<◌, ◌||◌, ◌∙◌, ◌∷◌, ◌≡◌, ◌≢◌, ◌≤◌, ◌⊎◌}
 pub use Rattle.std.proofs.Math.Nat.{add-div_left, add-mod_left, div-eq_of_lt, mod-eq_of_lt}
 pub use Rattle.std.proofs.Math.Seq.{drop-append_seam, take-append_seam}
-pub use Rattle.std.proofs.lemmas.Bool.{cond_both}
 pub use Rattle.std.proofs.lemmas.Bool.Decides.{nat_tests}
-pub use Rattle.std.proofs.lemmas.Grind.{div_ceil_times}
-pub use Rattle.std.proofs.lemmas.List.{drop-map, drop_all, drop_min, get_or_read, length-map, map-append, take-map, take-replicate, take_all, take_min, take_more, take_more_set}
+pub use Rattle.std.proofs.lemmas.Bool.{cond_both}
+pub use Rattle.std.proofs.lemmas.Grind.{div_ceil_times, replicate_next}
 pub use Rattle.std.proofs.lemmas.List.Elements.{All-append, All-cons, All-drop, All-filter, All-head, All-map, All-nil, All-replicate, All-tail, All-take, All-weaker}
+pub use Rattle.std.proofs.lemmas.List.{drop-map, drop_all, drop_min, get_or_read, length-map, map-append, take-map, take-replicate, take_all, take_min, take_more, take_more_set}
 pub use Rattle.std.proofs.lemmas.Nat.{mul-le}
 pub use Rattle.std.proofs.lemmas.Option.{unwrap_or-slice_get}
 pub use Rattle.std.proofs.lemmas.Result.{err_from_is_err_and}
-pub use Rattle.std.specs.Int.{div_ceil}
 pub use Rattle.std.specs.List.{slice_get, slice_index}
 pub use Rattle.std.specs.Option.{ok_or, option_and_then, option_or}
-pub use Rattle.std.specs.Prelude.{vec_capacity, vec_len}
-pub use Rattle.std.specs.Result.{is_err, is_ok}
-pub use Rattle.std.specs.Slice.Iter.{chunks_exact_rest, chunks_exact_size, chunks_rest, chunks_size}
-pub use Rattle.std.specs.declared.vec.Vec.{Vec}

@@ -1,9 +1,9 @@
-use Rattle.nap_draw.proofs.Common.{Arrives, Base, Bool, Colour, Coordinates, Course, Displacement, Displaces, Drawing, Entry, Filling, IfSome, List, None, Option, Some, Span, State, [], after, ap, arith, base_after, cons_if_all, displaced_point, drop, false, get_or, last_or, length, length-append, length-drop, length-map, map, moves, multi_of, operand_words, option_map, point_entry, points_reached, polyline_spans, refl, span_line_entry, suc, sym, take, true, walk, ℕ, ◌%◌, ◌*◌, ◌++◌, ◌+◌, ◌-◌, ◌/◌, ◌<◌, ◌∙◌, ◌∷◌, ◌≡◌, ◌≤◌}
-use Rattle.nap_list.specs.declared.attribute.Colour.TheVariants as colours
+use Rattle.nap_draw.proofs.Common.{ActsFully, Arrives, Base, Bool, Colour, Coordinates, Course, Displacement, Displaces, DrawFault, Drawing, Entry, Filling, Ghosts, IfSome, List, ModeZeroIsBase, None, Ok, Option, Result, RuleResult, Some, Span, State, TakesAll, Work, [], after, ap, arith, base_after, cons_if_all, displaced_point, drop, entries_result, false, get_or, is_some, last_or, length, length-append, length-drop, length-map, map, moves, multi_of, operand_words, option_map, point_at, point_entry, points_at, points_reached, polyline_spans, refl, sink_model_of, slice_index, span_line_entry, suc, sym, take, true, walk, with_pen_moved_to, ℕ, ◌%◌, ◌&&◌, ◌*◌, ◌++◌, ◌+◌, ◌-◌, ◌/◌, ◌<◌, ◌∙◌, ◌∷◌, ◌≡◌, ◌≤◌}
 use Rattle.nap_draw.proofs.ByteRuns.{moves_turn}
 use Rattle.nap_draw.proofs.Cuts.{moves_none}
 use Rattle.nap_draw.proofs.Decoding.{filling_begins, filling_end, filling_more}
-use Rattle.nap_draw.proofs.Turns.{cons_if_all_more, reached_turn}
+use Rattle.nap_draw.proofs.Turns.{cons_if_all_more, points_turn, reached_turn}
+use Rattle.nap_draw.proofs.Walks.{Lands, draws_end}
 
 -- Points that are only counted.
 
@@ -18,6 +18,23 @@ module _ {A : Type 0} (entry : A → Entry) (again : (s : State) (x y : A) → a
   unfolding last_or
   leaves_last s last [] is = let bad : ⊥ = cc in absurd bad
   leaves_last s last (x ∷ xs) is = leaves_from s x last xs is
+
+-- shapes of which only the last was made act as the entries of all
+module _ {A : Type 0} (entry : Drawing → A → Entry) (at : A → Coordinates) (lands : Lands entry at) (again : (d : Drawing) (s : State) (x y : A) → after (after s (entry d x)) (entry d y) ≡ after s (entry d y)) where
+  pub acts_counted : {S : Type 0} (g : Ghosts S) (w v : Work) (s t : S) (xs : List A) (last : A) (n : ℕ) → ModeZeroIsBase w.state.drawing.base w.state.drawing.colour → last_or None xs ≡ Some last → length xs ≡ n →
+      v ≡ record w { state = with_pen_moved_to w.state (Some (at last)) } →
+      ((list : List Entry) → length list ≡ n → walk (g.state s) list ≡ after (g.state s) (entry w.state.drawing last) → TakesAll (sink_model_of g) list s t) →
+      ActsFully g (entries_result w entry (Some xs)) w v s t
+  acts_counted g w v s t xs last n mode end many moved took =
+      let one = entry w.state.drawing in
+      let taken = took (map one xs) (length-map xs one ∙ many) (leaves_last one (again w.state.drawing) (g.state s) last xs end) in (
+        map one xs,
+        draws_end entry at lands w xs (Some (at last)) mode (ap (option_map at) (sym end))
+            ∙ ap (λ (work : Work). let all : Result RuleResult DrawFault = Ok (record { entries = map one xs; work = work; clears = false }) in all) (sym moved),
+        taken.took,
+        taken.state,
+        taken.works,
+      )
 
 base_twice : (base : Base) (colour : Colour) → base_after (base_after base (Some colour)) (Some colour) ≡ base_after base (Some colour)
 base_twice base colour = grind arith
@@ -83,6 +100,51 @@ three_bytes _ len = absurd (omega arith)
 pub if_some_map : {A : Type 0} (P Q : A → Type 0) (o : Option A) → IfSome o P → ((x : A) → P x → Q x) → IfSome o Q
 if_some_map P Q None is so = is
 if_some_map P Q (Some x) is so = so x is
+
+-- points that operands spell
+
+-- points so far, the last of which is spelt by this operand
+pub record Ends (all left : ℕ) (operand : List ℕ) (prefix : List Coordinates) : Type 0 where
+  pub many : length prefix + left ≡ all
+  pub last : 0 < length operand → last_or None prefix ≡ point_at (multi_of (operand_words operand))
+
+-- the points that a run spells are those so far, and those of the rest
+abbrev pub Spelt : ℕ → List ℕ → List ℕ → List ℕ → Type 0
+Spelt k run rest last =
+    let all = moves k (operand_words run) in
+    let left = moves k (operand_words rest) in
+    Filling (points_at all) (points_at left) false (Ends (length all) (length left) last)
+
+pub spelt_starts : (k : ℕ) (run : List ℕ) → Spelt k run run []
+spelt_starts k run =
+    let all = length (moves k (operand_words run)) in
+    filling_begins _ _ false (Ends all all []) refl (record { many = omega arith; last = λ some. absurd (omega arith) })
+
+pub spelt_more : (k : ℕ) (run rest last front after : List ℕ) (was begins : Bool) → 0 < length front → moves k (operand_words rest) ≡ multi_of (operand_words front) ∷ moves k (operand_words after) →
+    ((tail : List ℕ) → begins ≡ is_some (point_at (multi_of (operand_words (slice_index front 0 ∷ tail))))) → (was ≡ true → Spelt k run rest last) → (was && begins) ≡ true → Spelt k run after front
+spelt_more k run rest last [] after was begins some cut says spelt both = absurd (omega arith)
+spelt_more k run rest last (x ∷ xs) after false begins some cut says spelt both = let bad : ⊥ = cc in absurd bad
+spelt_more k run rest last (x ∷ xs) after true begins some cut says spelt both = by (point_at (multi_of (operand_words (x ∷ xs)))) refl (sym (says xs) ∙ both)
+  where
+    by : (o : Option Coordinates) → point_at (multi_of (operand_words (x ∷ xs))) ≡ o → is_some o ≡ true → Spelt k run after (x ∷ xs)
+    by None at inside = let bad : ⊥ = cc in absurd bad
+    by (Some p) at inside = filling_more _ _ _ p false false (Ends _ _ last) (Ends _ _ (x ∷ xs)) (spelt refl)
+        (cons_if_all_more _ _ p (λ _. points_at (moves k (operand_words after))) (points_turn _ _ _ cut) at)
+        (λ e. e)
+        (λ prefix e kept. record { many = omega (arith, kept.many, length-append prefix (p ∷ []), ap length cut); last = λ some. last_append None prefix p ∙ sym at })
+
+pub spelt_ends : (k : ℕ) (run rest last : List ℕ) (o : Option Coordinates) → 0 < length last → length rest ≡ 0 → o ≡ point_at (multi_of (operand_words last)) → Spelt k run rest last →
+    IfSome o (λ at. Arrives (points_at (moves k (operand_words run))) (length (moves k (operand_words run))) at)
+unfolding points_at
+spelt_ends k run rest last None some none at spelt = tt
+spelt_ends k run rest last (Some p) some none at spelt =
+    let kept = spelt.kept refl in
+    let nothing = moves_none k (operand_words rest) (length-map rest (λ byte. byte % 64) ∙ none) in record {
+      points = spelt.prefix;
+      are = filling_end _ _ false (Ends _ _ last) spelt (ap points_at nothing);
+      many = omega (arith, kept.many, ap length nothing);
+      last = kept.last some ∙ sym at;
+    }
 
 -- lines through points
 

@@ -3,20 +3,26 @@ use Rattle.nap_draw.specs.declared.fault.DrawFault.TheVariants.{Memory}
 
 -- Decoding of a run, operand by operand.
 
-more_after : {A : Type 0} (prefix : List A) (x : A) (rest : Option (List A)) →
-    option_map (λ xs. prefix ++ xs) (option_map (λ xs. x ∷ xs) rest) ≡ option_map (λ xs. (prefix ++ x ∷ []) ++ xs) rest
-more_after prefix x None = refl
-more_after prefix x (Some xs) = ap Some (sym (append_assoc prefix (x ∷ []) xs))
+more_after : {A : Type 0} (prefix front : List A) (rest : Option (List A)) →
+    option_map (λ xs. prefix ++ xs) (option_map (λ xs. front ++ xs) rest) ≡ option_map (λ xs. (prefix ++ front) ++ xs) rest
+more_after prefix front None = refl
+more_after prefix front (Some xs) = ap Some (sym (append_assoc prefix front xs))
+
+-- some more were decoded
+pub filling_front : {A : Type 0} (all left rest : Option (List A)) (front : List A) (full full' : Bool) (Keeps Keeps' : List A → Type 0) → Filling all left full Keeps →
+    left ≡ option_map (λ xs. front ++ xs) rest → (full' ≡ false → full ≡ false) → ((prefix : List A) → full' ≡ false → Keeps prefix → Keeps' (prefix ++ front)) →
+    Filling all rest full' Keeps'
+filling_front all left rest front full full' Keeps Keeps' filling is still keeps = record {
+  prefix = filling.prefix ++ front;
+  parts = filling.parts ∙ (ap (option_map (λ xs. filling.prefix ++ xs)) is ∙ more_after filling.prefix front rest);
+  kept = λ e. keeps filling.prefix e (filling.kept (still e));
+}
 
 -- one more was decoded
 pub filling_more : {A : Type 0} (all left rest : Option (List A)) (x : A) (full full' : Bool) (Keeps Keeps' : List A → Type 0) → Filling all left full Keeps →
     left ≡ option_map (λ xs. x ∷ xs) rest → (full' ≡ false → full ≡ false) → ((prefix : List A) → full' ≡ false → Keeps prefix → Keeps' (prefix ++ x ∷ [])) →
     Filling all rest full' Keeps'
-filling_more all left rest x full full' Keeps Keeps' filling is still keeps = record {
-  prefix = filling.prefix ++ x ∷ [];
-  parts = filling.parts ∙ (ap (option_map (λ xs. filling.prefix ++ xs)) is ∙ more_after filling.prefix x rest);
-  kept = λ e. keeps filling.prefix e (filling.kept (still e));
-}
+filling_more all left rest x = filling_front all left rest (x ∷ [])
 
 -- a point is outside the unit screen
 pub filling_none : {A : Type 0} (all left : Option (List A)) (full : Bool) (Keeps : List A → Type 0) → Filling all left full Keeps → left ≡ None → all ≡ None
@@ -44,6 +50,14 @@ pub pushed : {A E : Type 0} (r : Result (Unit {0}) E) (full failed : Bool) (old 
 pushed (Ok u) full failed old new x is fails e = is
 pushed (Err why) true failed old new x is fails e = let bad : ⊥ = cc in absurd bad
 pushed (Err why) false failed old new x is fails e = let bad : ⊥ = cc in absurd bad
+
+-- four points were decoded, and pushed one after another
+pub filling_four : {A : Type 0} (all left rest : Option (List A)) (old one two three new : List A) (a b c d : A) → Filling all left false (λ prefix. old ≡ prefix) →
+    left ≡ option_map (λ xs. a ∷ b ∷ c ∷ d ∷ xs) rest → one ≡ old ++ a ∷ [] → two ≡ one ++ b ∷ [] → three ≡ two ++ c ∷ [] → new ≡ three ++ d ∷ [] → Filling all rest false (λ prefix. new ≡ prefix)
+filling_four all left rest old one two three new a b c d filling is first second third fourth =
+    let pushed = fourth ∙ (ap (λ l. l ++ d ∷ []) third ∙ (append_assoc two (c ∷ []) (d ∷ []) ∙ (ap (λ l. l ++ c ∷ d ∷ []) second ∙ (append_assoc one (b ∷ []) (c ∷ d ∷ [])
+    ∙ (ap (λ l. l ++ b ∷ c ∷ d ∷ []) first ∙ append_assoc old (a ∷ []) (b ∷ c ∷ d ∷ [])))))) in
+    filling_front all left rest (a ∷ b ∷ c ∷ d ∷ []) false false (λ prefix. old ≡ prefix) (λ prefix. new ≡ prefix) filling is (λ e. e) (λ prefix e kept. pushed ∙ ap (λ l. l ++ a ∷ b ∷ c ∷ d ∷ []) kept)
 
 -- a chunk has at least one byte
 pub chunk_less : {A : Type 0} (k size : ℕ) (left x rest : List A) → size ≡ k → 1 ≤ k → left ≡ x ++ rest → length x ≡ min size (length left) → 0 < length left → length rest < length left

@@ -1,18 +1,9 @@
-use Rattle.nap_draw.proofs.Common.{Agrees, AllFit, Base, Bool, CodeFits, Colour, ColourAgrees, Components, Coordinates, Definition, Displacement, DrawFault, Drawing, Entry, EqualCurrent, Err, IsMade, IsSome, LastChar, List, MaskFits, MayCome, MayFollow, ModeZeroIsBase, None, Ok, Opcode, OpenDefinition, Option, Result, RuleFits, RuleResult, ShapeKind, Some, State, StatesAgree, TextLook, Texture, TextureFits, WellMade, Work, [], absolute_spans, after, agreeing_fits, and_then, ap, area_of, arith, at_least_one, at_most_limit, attributes, blink, blinks, code_rule, colour_of, colour_of_base, cond, definition_ended, definition_ended_by, definition_opened, definition_result, definition_start, displaced_points, domain_in, domain_rule, entries_result, entry_result, eqb, false, field_on, field_rule, first_and_more, fits_join, hand_attributes, hand_of, is_known, last_or, length, ltb, map, map_rule, moves_of, nat_tests, no_attributes, one_entry_result, operands, option_and_then, option_map, option_or, pen_point, pen_result, point_at, point_entry, points_at, points_reached, polyline_spans, rect_chain_spans, rect_on, refl, relative_spans, repeated_chars, reset_rule, rule, rule_result, selected_colour, set_color_rule, set_color_under, shape_from_pen, shape_from_point, shape_on, span_line_entry, steps_limit, subst, sym, true, walk, walks_join, with_colour, with_domain, with_drawing, with_known_colour, with_last, with_map_colour, with_pen_at, with_pen_moved_to, ℕ, ◌++◌, ◌+◌, ◌/◌, ◌<◌, ◌∙◌, ◌∷◌, ◌≡◌, ◌≤◌}
-use Rattle.nap_codes.specs.declared.opcode.Opcode.TheVariants as opcodes
-use Rattle.nap_list.specs.declared.attribute.Pen.TheVariants as pens
-use Rattle.nap_list.specs.declared.attribute.Base.TheVariants as bases
-use Rattle.nap_list.specs.declared.attribute.Colour.TheVariants as colours
+use Rattle.nap_draw.proofs.Common.{Agrees, AllFit, Base, Bool, CodeFits, Colour, ColourAgrees, Components, Coordinates, Definition, Displacement, DrawFault, Drawing, Entry, EqualCurrent, Err, IsMade, IsSome, LastChar, List, MaskFits, MayCome, MayFollow, ModeZeroIsBase, None, Ok, Opcode, OpenDefinition, Option, Pen, Result, RuleFits, RuleResult, ShapeKind, Some, State, StatesAgree, TextLook, Texture, TextureFits, WellMade, Work, [], absolute_spans, after, agreeing_fits, and_then, ap, area_of, arith, at_least_one, at_most_limit, attributes, blink, blinks, code_rule, colour_of, colour_of_base, cond, definition_ended, definition_ended_by, definition_opened, definition_result, definition_start, displaced_points, domain_in, domain_rule, entries_result, entry_result, eqb, false, field_on, field_rule, first_and_more, fits_join, hand_attributes, hand_of, is_known, last_or, length, ltb, map, map_rule, moves_of, nat_tests, no_attributes, one_entry_result, operands, option_and_then, option_map, option_or, pen_point, pen_result, point_at, point_entry, points_at, points_reached, polyline_spans, rect_chain_spans, rect_on, refl, relative_spans, repeated_chars, reset_rule, rule, rule_result, selected_colour, set_color_rule, set_color_under, shape_from_pen, shape_from_point, shape_on, span_line_entry, steps_limit, subst, sym, true, walk, walks_join, with_colour, with_domain, with_drawing, with_known_colour, with_last, with_map_colour, with_pen_at, with_pen_moved_to, ℕ, ◌++◌, ◌+◌, ◌/◌, ◌<◌, ◌∙◌, ◌∷◌, ◌≡◌, ◌≤◌}
 use Rattle.nap_draw.proofs.Still.{Stays, wait_stays, blink_stays, stays_fit}
-use Rattle.nap_list.specs.declared.entry.Entry.TheVariants as entries
-use Rattle.nap_list.specs.declared.state.Definition.TheVariants as definitions
 use Rattle.nap_codes.specs.declared.code.Code.{Code}
-use Rattle.nap_codes.specs.declared.code.Code.TheVariants as codes
-use Rattle.nap_draw.specs.declared.fault.DrawFault.TheVariants as faults
 use Rattle.nap_draw.proofs.Copies.{copies_fit, last_is_code}
 use Rattle.nap_draw.proofs.Endings.{ended_closed}
 use Rattle.nap_draw.proofs.Walks.{Lands, one, point_lands, line_lands, rect_lands}
-use Rattle.nap_list.specs.declared.shape.ShapeKind.TheVariants as kinds
 use Rattle.nap_draw.proofs.Outlines.{arc_made, poly_made, holds_shape, shape_comes}
 
 -- The entries of a rule's result fit.
@@ -58,7 +49,7 @@ pen_agrees s (Some p) shown a =
 module _ {A : Type 0} (entry : Drawing → A → Entry) (at : A → Coordinates) (by : Lands entry at) where
   holds_now : (s : State) (o : Option A) (x : A) → EqualCurrent (attributes (entry s.drawing x)) (with_pen_moved_to s (option_map at o)).drawing
   holds_now s None x = by.holds s.drawing.pen s.drawing x
-  holds_now s (Some y) x = by.holds (pens.At (at y)) s.drawing x
+  holds_now s (Some y) x = by.holds (Pen.At (at y)) s.drawing x
 
   in_mode : (s : State) (o : Option A) (shown : State) → StatesAgree (with_pen_moved_to s (option_map at o)) shown → ModeZeroIsBase s.drawing.base s.drawing.colour
   in_mode s None shown a = a.drawing.mode
@@ -108,7 +99,7 @@ single_fits work e holds made comes shown a =
 -- the rest of the rule gets a list that isn't empty
 some_fit : (work : Work) (xs : List Displacement) (f : List Displacement → Result RuleResult DrawFault) → ((ms : List Displacement) → 0 < length ms → IsFitting work (f ms)) →
     IsFitting work (and_then (at_least_one xs) f)
-some_fit work [] f each = fault_fits work faults.Missing
+some_fit work [] f each = fault_fits work DrawFault.Missing
 some_fit work (x ∷ xs) f each = each (x ∷ xs) (omega arith)
 
 -- the rest of the rule gets a list that isn't too long
@@ -116,8 +107,8 @@ few_fit : (work : Work) (ms : List Displacement) (f : List Displacement → Resu
     IsFitting work (and_then (at_most_limit ms) f)
 few_fit work ms f each = at (ltb steps_limit (length ms)) refl
   where
-    at : (b : Bool) → ltb steps_limit (length ms) ≡ b → IsFitting work (and_then (cond b (Err faults.ManyPoints) (Ok ms)) f)
-    at true many = fault_fits work faults.ManyPoints
+    at : (b : Bool) → ltb steps_limit (length ms) ≡ b → IsFitting work (and_then (cond b (Err DrawFault.ManyPoints) (Ok ms)) f)
+    at true many = fault_fits work DrawFault.ManyPoints
     at false few = each (grind (arith, nat_tests))
 
 one_fits : {A : Type 0} (work : Work) (entry : Drawing → A → Entry) (o : Option A) →
@@ -128,8 +119,8 @@ one_fits work entry (Some x) fits = fits x refl
 
 shape_is_made : (kind : ShapeKind) (filled : Bool) (d : Drawing) (p : Coordinates) (ms : List Displacement) (ps : List Coordinates) → 0 < length ms → length ms ≤ steps_limit →
     displaced_points kind p ms ≡ Some ps → WellMade (shape_on kind filled d ps)
-shape_is_made kinds.Arc filled d p ms ps some few is = arc_made p ms ps some few is
-shape_is_made kinds.Poly filled d p ms ps some few is = poly_made p ms ps some few is
+shape_is_made ShapeKind.Arc filled d p ms ps some few is = arc_made p ms ps some few is
+shape_is_made ShapeKind.Poly filled d p ms ps some few is = poly_made p ms ps some few is
 
 module _ (work : Work) (kind : ShapeKind) (filled : Bool) where
   shape_fits : (p : Coordinates) (ms : List Displacement) → 0 < length ms → length ms ≤ steps_limit → IsFitting work (entry_result work (shape_on kind filled) (displaced_points kind p ms))
@@ -144,13 +135,13 @@ module _ (work : Work) (kind : ShapeKind) (filled : Bool) where
 
   point_fits : (o : Option Coordinates) (ms : List Displacement) → 0 < length ms → length ms ≤ steps_limit →
       IsFitting work (entry_result work (shape_on kind filled) (option_and_then (λ p. displaced_points kind p ms) o))
-  point_fits None ms some few = fault_fits work faults.Outside
+  point_fits None ms some few = fault_fits work DrawFault.Outside
   point_fits (Some p) ms some few = shape_fits p ms some few
 
   first_fits : (xs : List Displacement) →
       IsFitting work (and_then (first_and_more xs) (λ (m, ms). and_then (at_most_limit ms) (λ ms. entry_result work (shape_on kind filled) (option_and_then (λ p. displaced_points kind p ms) (point_at m)))))
-  first_fits [] = fault_fits work faults.Missing
-  first_fits (m ∷ []) = fault_fits work faults.Missing
+  first_fits [] = fault_fits work DrawFault.Missing
+  first_fits (m ∷ []) = fault_fits work DrawFault.Missing
   first_fits (m ∷ n ∷ ms) = few_fit work (n ∷ ms) _ (λ few. point_fits (point_at m) (n ∷ ms) (omega arith) few)
 
   shape_point_fits : (run : List ℕ) → IsFitting work (shape_from_point work run (shape_on kind filled) (displaced_points kind))
@@ -166,13 +157,13 @@ unfolding Fitting
 stay_fits work entry stays xs shown a = stays_fit work.state.drawing entry (stays a.drawing.mode) work.state work.state.last xs shown a
 
 blink_fits : (work : Work) (k : ℕ) (groups : List (List ℕ)) → Fitting work (rule_result work (blinks k work.state.drawing.colour groups))
-blink_fits work k [] = single_fits work (entries.BlinkEnd work.state.drawing.colour) (record { pen = tt; pel = tt; colour = refl; texture = tt; text = tt }) tt tt
+blink_fits work k [] = single_fits work (Entry.BlinkEnd work.state.drawing.colour) (record { pen = tt; pel = tt; colour = refl; texture = tt; text = tt }) tt tt
 blink_fits work k (group ∷ groups) = stay_fits work (blink k work.state.drawing.colour) (blink_stays work.state.drawing k) (group ∷ groups)
 
 reset_fits : (work : Work) (first second : ℕ) → IsFitting work (reset_rule work first second)
 unfolding IsFitting Fitting
 reset_fits work first second shown a =
-    single_fits work (entries.Reset first second work.state.drawing.pen) (record { pen = refl; pel = tt; colour = tt; texture = tt; text = tt }) tt tt shown a
+    single_fits work (Entry.Reset first second work.state.drawing.pen) (record { pen = refl; pel = tt; colour = tt; texture = tt; text = tt }) tt tt shown a
 
 text_agrees : (s : State) (look : TextLook) (shown : State) → StatesAgree s shown → StatesAgree (record s { drawing = record s.drawing { text = look } }) shown
 text_agrees s look shown a =
@@ -188,12 +179,12 @@ texture_agrees s word mask shown a =
     values_agree s _ shown a (record { pen = a.drawing.pen; base = a.drawing.base; colour = a.drawing.colour; mode = a.drawing.mode; texture = mask_agrees s.drawing.texture mask shown.drawing.texture a.drawing.texture })
 
 base_mode : (base : Base) → ModeZeroIsBase base (colour_of_base base)
-base_mode (bases.Own origin) = refl
-base_mode (bases.Direct grb) = refl
+base_mode (Base.Own origin) = refl
+base_mode (Base.Direct grb) = refl
 
 base_agrees : (base : Base) (shown : Colour) → ColourAgrees (colour_of_base base) shown
-base_agrees (bases.Own origin) shown = tt
-base_agrees (bases.Direct grb) shown = tt
+base_agrees (Base.Own origin) shown = tt
+base_agrees (Base.Direct grb) shown = tt
 
 select_agrees : (s : State) (addresses : List ℕ) (shown : State) → StatesAgree s shown → StatesAgree (record s { drawing = with_colour (selected_colour s.drawing.base addresses) s.drawing }) shown
 select_agrees s [] shown a =
@@ -204,19 +195,19 @@ select_agrees s (x ∷ y ∷ more) shown a =
     values_agree s _ shown a (record { pen = a.drawing.pen; base = a.drawing.base; colour = tt; mode = tt; texture = a.drawing.texture })
 
 direct_agrees : (s : State) (grb : Components) (shown : State) → StatesAgree s shown →
-    StatesAgree (record s { drawing = record s.drawing { base = bases.Direct grb; colour = colours.Direct grb } }) shown
+    StatesAgree (record s { drawing = record s.drawing { base = Base.Direct grb; colour = Colour.Direct grb } }) shown
 direct_agrees s grb shown a =
     values_agree s _ shown a (record { pen = a.drawing.pen; base = tt; colour = tt; mode = refl; texture = a.drawing.texture })
 
 -- a colour of the colour map, which agrees with any colour that the entries left
 abbrev ColourIsMapped : Colour → Type 0
-ColourIsMapped (colours.Front a) = Unit {0}
-ColourIsMapped (colours.Pair a b) = Unit {0}
+ColourIsMapped (Colour.Front a) = Unit {0}
+ColourIsMapped (Colour.Pair a b) = Unit {0}
 ColourIsMapped _ = ⊥
 
 mapped_agrees : (colour shown : Colour) → ColourIsMapped colour → ColourAgrees colour shown
-mapped_agrees (colours.Front a) shown mapped = tt
-mapped_agrees (colours.Pair a b) shown mapped = tt
+mapped_agrees (Colour.Front a) shown mapped = tt
+mapped_agrees (Colour.Pair a b) shown mapped = tt
 mapped_agrees _ shown mapped = absurd mapped
 
 attribute_fits : (work w : Work) → ((shown : State) → StatesAgree work.state shown → StatesAgree w.state shown) → IsFitting work (Ok (rule_result w []))
@@ -224,7 +215,7 @@ unfolding IsFitting
 attribute_fits work w agrees = silent_fits work w agrees
 
 new_fits : (work : Work) (a : ℕ) (grb : Components) → ColourIsMapped work.state.drawing.colour → is_known a grb work.state.known ≡ false →
-    IsFitting work (Ok (record { entries = entries.Map a grb ∷ []; work = record work { state = with_map_colour work.state a grb }; clears = false }))
+    IsFitting work (Ok (record { entries = Entry.Map a grb ∷ []; work = record work { state = with_map_colour work.state a grb }; clears = false }))
 unfolding IsFitting Fitting AllFit walk
 new_fits work a grb chosen new shown agrees = (
   (record { values = record { pen = tt; colour = tt; texture = tt }; made = tt; comes = ap (is_known a grb) (sym agrees.known) ∙ new }, tt),
@@ -232,7 +223,7 @@ new_fits work a grb chosen new shown agrees = (
     drawing = record {
       pen = agrees.drawing.pen;
       base = agrees.drawing.base;
-      colour = mapped_agrees work.state.drawing.colour (colours.Front a) chosen;
+      colour = mapped_agrees work.state.drawing.colour (Colour.Front a) chosen;
       mode = agrees.drawing.mode;
       texture = agrees.drawing.texture;
     };
@@ -251,51 +242,51 @@ map_fits work a grb chosen = by (is_known a grb work.state.known) refl
     by false is = rw is (new_fits work a grb chosen is)
 
 colours_fit : (work : Work) (colour : Colour) (grb : Components) → work.state.drawing.colour ≡ colour → IsFitting work (set_color_under work colour grb)
-colours_fit work (colours.Own origin) grb is = attribute_fits work _ (direct_agrees work.state grb)
-colours_fit work (colours.Direct old) grb is = attribute_fits work _ (direct_agrees work.state grb)
-colours_fit work (colours.Front a) grb is = map_fits work a grb (subst (λ (c : Colour). ColourIsMapped c) (sym is) tt)
-colours_fit work (colours.Pair a b) grb is = map_fits work a grb (subst (λ (c : Colour). ColourIsMapped c) (sym is) tt)
-colours_fit work (colours.ByReset preset) grb is = fault_fits work faults.NoAddress
+colours_fit work (Colour.Own origin) grb is = attribute_fits work _ (direct_agrees work.state grb)
+colours_fit work (Colour.Direct old) grb is = attribute_fits work _ (direct_agrees work.state grb)
+colours_fit work (Colour.Front a) grb is = map_fits work a grb (subst (λ (c : Colour). ColourIsMapped c) (sym is) tt)
+colours_fit work (Colour.Pair a b) grb is = map_fits work a grb (subst (λ (c : Colour). ColourIsMapped c) (sym is) tt)
+colours_fit work (Colour.ByReset preset) grb is = fault_fits work DrawFault.NoAddress
 
 set_color_fits : (work : Work) (operands : List (List ℕ)) → IsFitting work (set_color_rule work operands)
-set_color_fits work [] = fault_fits work faults.Missing
+set_color_fits work [] = fault_fits work DrawFault.Missing
 set_color_fits work (operand ∷ []) = colours_fit work work.state.drawing.colour (colour_of operand) refl
-set_color_fits work (operand ∷ other ∷ more) = fault_fits work faults.ManyColours
+set_color_fits work (operand ∷ other ∷ more) = fault_fits work DrawFault.ManyColours
 
 list_fits : (work : Work) (list : List Entry) → Fitting work (rule_result work list) → IsFitting work (Ok (rule_result work list))
 unfolding IsFitting
 list_fits work list fits = fits
 
 rule_is_fitting : (work : Work) (op : Opcode) (run : List ℕ) → IsFitting work (rule work op run)
-rule_is_fitting work opcodes.Domain run = domain_fits work run
-rule_is_fitting work opcodes.PointSetAbs run = each_fits work _ _ (λ ms. goes_fits work (points_at ms))
-rule_is_fitting work opcodes.PointSetRel run = pen_fits work run _ (λ p ms. goes_fits work (points_reached p ms))
-rule_is_fitting work opcodes.PointAbs run = each_fits work _ _ (λ ms. draws_fit point_entry _ point_lands work (points_at ms))
-rule_is_fitting work opcodes.PointRel run = pen_fits work run _ (λ p ms. draws_fit point_entry _ point_lands work (points_reached p ms))
-rule_is_fitting work opcodes.LineAbs run = pen_fits work run _ (λ p ms. draws_fit span_line_entry _ line_lands work (option_map (polyline_spans p) (points_at ms)))
-rule_is_fitting work opcodes.LineRel run = pen_fits work run _ (λ p ms. draws_fit span_line_entry _ line_lands work (option_map (polyline_spans p) (points_reached p ms)))
-rule_is_fitting work opcodes.SetLineAbs run = each_fits work _ _ (λ ms. draws_fit span_line_entry _ line_lands work (absolute_spans ms))
-rule_is_fitting work opcodes.SetLineRel run = each_fits work _ _ (λ ms. draws_fit span_line_entry _ line_lands work (relative_spans ms))
-rule_is_fitting work opcodes.ArcOutlined run = shape_pen_fits work kinds.Arc false run
-rule_is_fitting work opcodes.ArcFilled run = shape_pen_fits work kinds.Arc true run
-rule_is_fitting work opcodes.SetArcOutlined run = shape_point_fits work kinds.Arc false run
-rule_is_fitting work opcodes.SetArcFilled run = shape_point_fits work kinds.Arc true run
-rule_is_fitting work opcodes.RectOutlined run = pen_fits work run _ (λ p ms. draws_fit (rect_on false) _ (rect_lands false) work (rect_chain_spans p ms))
-rule_is_fitting work opcodes.RectFilled run = pen_fits work run _ (λ p ms. draws_fit (rect_on true) _ (rect_lands true) work (rect_chain_spans p ms))
-rule_is_fitting work opcodes.SetRectOutlined run = each_fits work _ _ (λ ms. draws_fit (rect_on false) _ (rect_lands false) work (relative_spans ms))
-rule_is_fitting work opcodes.SetRectFilled run = each_fits work _ _ (λ ms. draws_fit (rect_on true) _ (rect_lands true) work (relative_spans ms))
-rule_is_fitting work opcodes.PolyOutlined run = shape_pen_fits work kinds.Poly false run
-rule_is_fitting work opcodes.PolyFilled run = shape_pen_fits work kinds.Poly true run
-rule_is_fitting work opcodes.SetPolyOutlined run = shape_point_fits work kinds.Poly false run
-rule_is_fitting work opcodes.SetPolyFilled run = shape_point_fits work kinds.Poly true run
-rule_is_fitting work opcodes.Field run = field_fits work (moves_of work run)
-rule_is_fitting work opcodes.Reset run = reset_fits work _ _
-rule_is_fitting work opcodes.Text run = attribute_fits work _ (text_agrees work.state _)
-rule_is_fitting work opcodes.Texture run = attribute_fits work _ (texture_agrees work.state _ _)
-rule_is_fitting work opcodes.SelectColor run = attribute_fits work _ (select_agrees work.state _)
-rule_is_fitting work opcodes.SetColor run = set_color_fits work (operands work.domain.multi run)
-rule_is_fitting work opcodes.Wait run = list_fits work _ (stay_fits work entries.Wait (λ _. wait_stays work.state.drawing) run)
-rule_is_fitting work opcodes.Blink run = list_fits work _ (blink_fits work work.domain.single (operands (work.domain.single + 3) run))
+rule_is_fitting work Opcode.Domain run = domain_fits work run
+rule_is_fitting work Opcode.PointSetAbs run = each_fits work _ _ (λ ms. goes_fits work (points_at ms))
+rule_is_fitting work Opcode.PointSetRel run = pen_fits work run _ (λ p ms. goes_fits work (points_reached p ms))
+rule_is_fitting work Opcode.PointAbs run = each_fits work _ _ (λ ms. draws_fit point_entry _ point_lands work (points_at ms))
+rule_is_fitting work Opcode.PointRel run = pen_fits work run _ (λ p ms. draws_fit point_entry _ point_lands work (points_reached p ms))
+rule_is_fitting work Opcode.LineAbs run = pen_fits work run _ (λ p ms. draws_fit span_line_entry _ line_lands work (option_map (polyline_spans p) (points_at ms)))
+rule_is_fitting work Opcode.LineRel run = pen_fits work run _ (λ p ms. draws_fit span_line_entry _ line_lands work (option_map (polyline_spans p) (points_reached p ms)))
+rule_is_fitting work Opcode.SetLineAbs run = each_fits work _ _ (λ ms. draws_fit span_line_entry _ line_lands work (absolute_spans ms))
+rule_is_fitting work Opcode.SetLineRel run = each_fits work _ _ (λ ms. draws_fit span_line_entry _ line_lands work (relative_spans ms))
+rule_is_fitting work Opcode.ArcOutlined run = shape_pen_fits work ShapeKind.Arc false run
+rule_is_fitting work Opcode.ArcFilled run = shape_pen_fits work ShapeKind.Arc true run
+rule_is_fitting work Opcode.SetArcOutlined run = shape_point_fits work ShapeKind.Arc false run
+rule_is_fitting work Opcode.SetArcFilled run = shape_point_fits work ShapeKind.Arc true run
+rule_is_fitting work Opcode.RectOutlined run = pen_fits work run _ (λ p ms. draws_fit (rect_on false) _ (rect_lands false) work (rect_chain_spans p ms))
+rule_is_fitting work Opcode.RectFilled run = pen_fits work run _ (λ p ms. draws_fit (rect_on true) _ (rect_lands true) work (rect_chain_spans p ms))
+rule_is_fitting work Opcode.SetRectOutlined run = each_fits work _ _ (λ ms. draws_fit (rect_on false) _ (rect_lands false) work (relative_spans ms))
+rule_is_fitting work Opcode.SetRectFilled run = each_fits work _ _ (λ ms. draws_fit (rect_on true) _ (rect_lands true) work (relative_spans ms))
+rule_is_fitting work Opcode.PolyOutlined run = shape_pen_fits work ShapeKind.Poly false run
+rule_is_fitting work Opcode.PolyFilled run = shape_pen_fits work ShapeKind.Poly true run
+rule_is_fitting work Opcode.SetPolyOutlined run = shape_point_fits work ShapeKind.Poly false run
+rule_is_fitting work Opcode.SetPolyFilled run = shape_point_fits work ShapeKind.Poly true run
+rule_is_fitting work Opcode.Field run = field_fits work (moves_of work run)
+rule_is_fitting work Opcode.Reset run = reset_fits work _ _
+rule_is_fitting work Opcode.Text run = attribute_fits work _ (text_agrees work.state _)
+rule_is_fitting work Opcode.Texture run = attribute_fits work _ (texture_agrees work.state _ _)
+rule_is_fitting work Opcode.SelectColor run = attribute_fits work _ (select_agrees work.state _)
+rule_is_fitting work Opcode.SetColor run = set_color_fits work (operands work.domain.multi run)
+rule_is_fitting work Opcode.Wait run = list_fits work _ (stay_fits work Entry.Wait (λ _. wait_stays work.state.drawing) run)
+rule_is_fitting work Opcode.Blink run = list_fits work _ (blink_fits work work.domain.single (operands (work.domain.single + 3) run))
 rule_is_fitting work _ run = attribute_fits work work (λ shown agrees. agrees)
 
 fits_as : (work : Work) (r : Result RuleResult DrawFault) (d : RuleResult) → r ≡ Ok d → IsFitting work r → Fitting work d
@@ -310,7 +301,7 @@ rule_fits work op run shown d is agrees = fits_as work (rule work op run) d is (
 
 last_fits : (work : Work) (o : Option LastChar) (next : LastChar → Result RuleResult DrawFault) → work.state.last ≡ o → ((last : LastChar) → work.state.last ≡ Some last → IsFitting work (next last)) →
     IsFitting work (with_last o next)
-last_fits work None next is each = fault_fits work faults.NothingToRepeat
+last_fits work None next is each = fault_fits work DrawFault.NothingToRepeat
 last_fits work (Some last) next is each = each last is
 
 copies_are_fitting : (work : Work) (last : LastChar) (n : ℕ) → work.state.last ≡ Some last → Fitting work (rule_result work (repeated_chars work.state last n))
@@ -328,7 +319,7 @@ entry_fits work e follows = list_fits work (e ∷ []) (single_fits work e follow
 
 -- the open definition ends
 
-end_follows : (s : State) (opened : OpenDefinition) → s.definition ≡ Some opened → MayFollow s entries.DefEnd
+end_follows : (s : State) (opened : OpenDefinition) → s.definition ≡ Some opened → MayFollow s Entry.DefEnd
 end_follows s opened is = record { holds = nothing_holds s.drawing; made = tt; comes = subst (λ (o : Option OpenDefinition). IsSome o) (sym is) refl }
 
 ended_fits : (work : Work) (o : Option OpenDefinition) → work.state.definition ≡ o → Fitting work (definition_ended_by work o)
@@ -336,13 +327,13 @@ unfolding Fitting AllFit walk
 ended_fits work None is shown a = (tt, a)
 ended_fits work (Some opened) is shown a =
     let follows = end_follows work.state opened is in
-    let fits = agreeing_fits work.state shown entries.DefEnd a follows.holds follows.made follows.comes in ((fits.0, tt), fits.1)
+    let fits = agreeing_fits work.state shown Entry.DefEnd a follows.holds follows.made follows.comes in ((fits.0, tt), fits.1)
 
 -- another definition begins
 
 start_follows : (work : Work) (what : Definition) → WellMade (definition_start what) → MayFollow (definition_ended work).work.state (definition_start what)
-start_follows work (definitions.Glyph code) made = record { holds = nothing_holds _; made = made; comes = ended_closed work work.state.definition refl }
-start_follows work (definitions.Mask mask) made = record { holds = nothing_holds _; made = made; comes = ended_closed work work.state.definition refl }
+start_follows work (Definition.Glyph code) made = record { holds = nothing_holds _; made = made; comes = ended_closed work work.state.definition refl }
+start_follows work (Definition.Mask mask) made = record { holds = nothing_holds _; made = made; comes = ended_closed work work.state.definition refl }
 
 pub opened_fits : (work : Work) (what : Definition) → WellMade (definition_start what) → (shown : State) → StatesAgree work.state shown →
     AllFit shown ((definition_ended work).entries ++ definition_start what ∷ []) × StatesAgree (definition_opened (definition_ended work) (definition_start what)).work.state (walk shown ((definition_ended work).entries ++ definition_start what ∷ []))
@@ -366,25 +357,25 @@ unfolding IsFitting Fitting
 opens_fit work what made = opened_fits work what made
 
 code_is_fitting : (work : Work) (code : Code) → IsMade code → IsFitting work (code_rule work code)
-code_is_fitting work (codes.Char set code) made = entry_fits work _ (record { holds = hand_holds work.state.drawing; made = made; comes = tt })
-code_is_fitting work (codes.Step step) made = entry_fits work _ (record { holds = hand_holds work.state.drawing; made = made; comes = tt })
-code_is_fitting work codes.Clear made = entry_fits work _ (record { holds = record { pen = refl; pel = tt; colour = tt; texture = tt; text = tt }; made = tt; comes = tt })
-code_is_fitting work codes.Bell made = entry_fits work _ (record { holds = nothing_holds work.state.drawing; made = tt; comes = tt })
-code_is_fitting work (codes.Repeat count) made = last_fits work work.state.last _ refl (λ last is. list_fits work _ (copies_are_fitting work last count is))
-code_is_fitting work codes.ToEol made =
+code_is_fitting work (Code.Char set code) made = entry_fits work _ (record { holds = hand_holds work.state.drawing; made = made; comes = tt })
+code_is_fitting work (Code.Step step) made = entry_fits work _ (record { holds = hand_holds work.state.drawing; made = made; comes = tt })
+code_is_fitting work Code.Clear made = entry_fits work _ (record { holds = record { pen = refl; pel = tt; colour = tt; texture = tt; text = tt }; made = tt; comes = tt })
+code_is_fitting work Code.Bell made = entry_fits work _ (record { holds = nothing_holds work.state.drawing; made = tt; comes = tt })
+code_is_fitting work (Code.Repeat count) made = last_fits work work.state.last _ refl (λ last is. list_fits work _ (copies_are_fitting work last count is))
+code_is_fitting work Code.ToEol made =
     last_fits work work.state.last _ refl (λ last is. entry_fits work _ (record { holds = hand_holds work.state.drawing; made = tt; comes = subst (λ (o : Option LastChar). IsSome o) (sym is) refl }))
-code_is_fitting work (codes.BlinkMark on) made =
+code_is_fitting work (Code.BlinkMark on) made =
     entry_fits work _ (record { holds = record { pen = tt; pel = tt; colour = refl; texture = tt; text = tt }; made = tt; comes = tt })
-code_is_fitting work (codes.Cursor kind) made = entry_fits work _ (record { holds = nothing_holds work.state.drawing; made = tt; comes = tt })
-code_is_fitting work (codes.Named size) made = attribute_fits work _ (text_agrees work.state _)
-code_is_fitting work (codes.Reverse on) made = attribute_fits work _ (text_agrees work.state _)
-code_is_fitting work (codes.Underline on) made = attribute_fits work _ (text_agrees work.state _)
-code_is_fitting work (codes.Wrap on) made = attribute_fits work _ (text_agrees work.state _)
-code_is_fitting work (codes.Scroll on) made = attribute_fits work _ (text_agrees work.state _)
-code_is_fitting work (codes.DefGlyph code) made = opens_fit work (definitions.Glyph code) made
-code_is_fitting work (codes.DefMask mask) made = opens_fit work (definitions.Mask mask) tt
-code_is_fitting work (codes.DefMacro name show) made = ends_fit work
-code_is_fitting work codes.End made = ends_fit work
+code_is_fitting work (Code.Cursor kind) made = entry_fits work _ (record { holds = nothing_holds work.state.drawing; made = tt; comes = tt })
+code_is_fitting work (Code.Named size) made = attribute_fits work _ (text_agrees work.state _)
+code_is_fitting work (Code.Reverse on) made = attribute_fits work _ (text_agrees work.state _)
+code_is_fitting work (Code.Underline on) made = attribute_fits work _ (text_agrees work.state _)
+code_is_fitting work (Code.Wrap on) made = attribute_fits work _ (text_agrees work.state _)
+code_is_fitting work (Code.Scroll on) made = attribute_fits work _ (text_agrees work.state _)
+code_is_fitting work (Code.DefGlyph code) made = opens_fit work (Definition.Glyph code) made
+code_is_fitting work (Code.DefMask mask) made = opens_fit work (Definition.Mask mask) tt
+code_is_fitting work (Code.DefMacro name show) made = ends_fit work
+code_is_fitting work Code.End made = ends_fit work
 code_is_fitting work _ made = attribute_fits work work (λ shown agrees. agrees)
 
 pub code_fits : CodeFits

@@ -1,5 +1,4 @@
 use Rattle.nap_draw.proofs.Common.{Coordinates, Displacement, DrawFault, Drawing, Err, List, None, Ok, Option, Pen, Result, RuleResult, Some, Work, [], and_then, ap, at_least_one, cons_if_all, displaced_point, false, from_pen, last_or, moves_of, option_map, pen_point, pen_result, point_at, points_at, points_reached, refl, sym, walk, with_drawing, with_operands, with_pen, with_pen_at, ℕ, ◌++◌, ◌∙◌, ◌∷◌, ◌≡◌, ◌≢◌}
-use Rattle.nap_list.specs.declared.attribute.Pen.TheVariants as pens
 use Rattle.nap_draw.specs.declared.fault.DrawFault.TheVariants.{Missing}
 
 -- Where the pen moves without drawing.
@@ -22,7 +21,7 @@ unfolding last_or
 pen_before d pen is = ap (λ (pen : Pen). with_pen pen d) is
 
 -- one point more
-pub pen_after : (d : Drawing) (prefix : List Coordinates) (p : Coordinates) → with_pen (pens.At p) d ≡ with_pen_at (last_or None (prefix ++ p ∷ [])) d
+pub pen_after : (d : Drawing) (prefix : List Coordinates) (p : Coordinates) → with_pen (Pen.At p) d ≡ with_pen_at (last_or None (prefix ++ p ∷ [])) d
 pen_after d prefix p = ap (λ o. with_pen_at o d) (sym (end_after None prefix p))
 
 -- a list that has a first item isn't empty
@@ -53,7 +52,7 @@ ends_alike p at (m ∷ ms) [] some is end = absurd (cons_if_all_some (displaced_
 -- the point that all operands reached
 pub pen_reached : (work : Work) (run : List ℕ) (from at : Coordinates) (ps : List Coordinates) →
     ((f : Coordinates → List Displacement → Result RuleResult DrawFault) → from_pen work run f ≡ f from (moves_of work run)) →
-    points_reached from (moves_of work run) ≡ Some ps → last_or (Some from) ps ≡ Some at → with_pen (pens.At at) work.state.drawing ≡ with_pen_at (last_or None ps) work.state.drawing
+    points_reached from (moves_of work run) ≡ Some ps → last_or (Some from) ps ≡ Some at → with_pen (Pen.At at) work.state.drawing ≡ with_pen_at (last_or None ps) work.state.drawing
 pen_reached work run from at ps starts is end =
     ap (λ o. with_pen_at o work.state.drawing) (sym (ends_alike from at (moves_of work run) ps (starts_some work run from starts) is end))
 

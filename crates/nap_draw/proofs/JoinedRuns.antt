@@ -1,6 +1,4 @@
-use Rattle.nap_draw.proofs.Common.{AreWholeOperands, Bool, Coordinates, Displacement, DrawFault, Entry, Err, Ink, List, None, Ok, Option, Pen, Result, RuleResult, RunsJoin, Some, Span, State, Work, [], absolute_spans, after, and_then, ap, append_assoc, ap₂, arith, at_least_one, complete_pairs, cond, cons_if_all, drop, entries_result, eqb, false, ink_of, length, length-append, length-drop, length-take, map, map-append, moves, moves_of, multi_of, nat_tests, operands, option_map, pen_point, point_at, points_at, polyline_spans, refl, relative_spans, rule_result, span, span_by, subst, suc, suc-mul, sym, take, take-append-drop, true, walk, walks_join, ℕ, ◌%◌, ◌*◌, ◌++◌, ◌+◌, ◌∙◌, ◌∷◌, ◌≡◌}
-use Rattle.nap_codes.specs.declared.opcode.Opcode.TheVariants as opcodes
-use Rattle.nap_list.specs.declared.entry.Entry.TheVariants as entries
+use Rattle.nap_draw.proofs.Common.{AreWholeOperands, Bool, Coordinates, Displacement, DrawFault, Entry, Err, Ink, List, None, Ok, Opcode, Option, Pen, Result, RuleResult, RunsJoin, Some, Span, State, Work, [], absolute_spans, after, and_then, ap, append_assoc, ap₂, arith, at_least_one, complete_pairs, cond, cons_if_all, drop, entries_result, eqb, false, ink_of, length, length-append, length-drop, length-take, map, map-append, moves, moves_of, multi_of, nat_tests, operands, option_map, pen_point, point_at, points_at, polyline_spans, refl, relative_spans, rule_result, span, span_by, subst, suc, suc-mul, sym, take, take-append-drop, true, walk, walks_join, ℕ, ◌%◌, ◌*◌, ◌++◌, ◌+◌, ◌∙◌, ◌∷◌, ◌≡◌}
 use Rattle.nap_draw.specs.declared.fault.DrawFault.TheVariants.{Missing}
 use Rattle.nap_draw.proofs.Cuts.{moves_chunk}
 use Rattle.nap_draw.proofs.Outlines.{mapped_some}
@@ -168,13 +166,13 @@ module _ {A : Type 0} (entry : Ink → A → Entry) (keeps : Keeps entry) where
 -- a point leaves the current texture, and a line or a rectangle holds all three
 
 abbrev point_with : Ink → Coordinates → Entry
-point_with ink at = entries.Point at ink.pel ink.colour
+point_with ink at = Entry.Point at ink.pel ink.colour
 
 abbrev line_with : Ink → Span → Entry
-line_with ink s = entries.Line s.from s.to ink
+line_with ink s = Entry.Line s.from s.to ink
 
 abbrev rect_with : Bool → Ink → Span → Entry
-rect_with filled ink s = entries.Rect filled s.from s.to ink
+rect_with filled ink s = Entry.Rect filled s.from s.to ink
 
 point_keeps : Keeps point_with
 point_keeps s ink at is = ap (λ (i : Ink). record ink { texture = i.texture }) is
@@ -217,10 +215,10 @@ module _ {A : Type 0} (entry : Ink → A → Entry) (keeps : Keeps entry) (gate 
   alone = rule_joins entry keeps {B = Unit {0}} gate by (λ pen. Ok tt) (λ b ms. shapes ms) (λ s b c ms ns xs ys begins leads then_ more. onto ms ns xs ys leads more)
 
 pub runs_join : RunsJoin
-runs_join work opcodes.PointAbs run more first second joins whole = alone point_with point_keeps at_least_one some_gate points_at points_join work run more first second whole
-runs_join work opcodes.LineAbs run more first second joins whole =
+runs_join work Opcode.PointAbs run more first second joins whole = alone point_with point_keeps at_least_one some_gate points_at points_join work run more first second whole
+runs_join work Opcode.LineAbs run more first second joins whole =
     rule_joins line_with (λ s ink x is. refl) at_least_one some_gate pen_point (λ p ms. option_map (polyline_spans p) (points_at ms)) lines_on work run more first second whole
-runs_join work opcodes.SetLineAbs run more first second joins whole = alone line_with (λ s ink x is. refl) complete_pairs pairs_gate absolute_spans between_join work run more first second whole
-runs_join work opcodes.SetRectOutlined run more first second joins whole = alone (rect_with false) (λ s ink x is. refl) complete_pairs pairs_gate relative_spans away_join work run more first second whole
-runs_join work opcodes.SetRectFilled run more first second joins whole = alone (rect_with true) (λ s ink x is. refl) complete_pairs pairs_gate relative_spans away_join work run more first second whole
+runs_join work Opcode.SetLineAbs run more first second joins whole = alone line_with (λ s ink x is. refl) complete_pairs pairs_gate absolute_spans between_join work run more first second whole
+runs_join work Opcode.SetRectOutlined run more first second joins whole = alone (rect_with false) (λ s ink x is. refl) complete_pairs pairs_gate relative_spans away_join work run more first second whole
+runs_join work Opcode.SetRectFilled run more first second joins whole = alone (rect_with true) (λ s ink x is. refl) complete_pairs pairs_gate relative_spans away_join work run more first second whole
 runs_join work _ run more first second joins whole = absurd joins

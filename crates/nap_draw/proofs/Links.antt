@@ -1,6 +1,5 @@
 use Rattle.nap_draw.proofs.Common.{Coordinates, Drawing, Entry, Figure, List, Option, Some, Span, [], add-one, ap, arith, chain_spans, drop, drop-cons, figure_end, figure_entry, get_or, ink_of, last_or, length, map, option_map, pair_spans, polyline_entries, polyline_spans, rect_spans, refl, span_line_entry, suc, sym, ℕ, ◌++◌, ◌+◌, ◌<◌, ◌∙◌, ◌∷◌, ◌≡◌}
 use Rattle.nap_list.specs.declared.entry.Entry.TheVariants.{Line}
-use Rattle.nap_draw.specs.declared.spans.Figure.TheVariants as figures
 
 -- What is left of a list in a loop.
 
@@ -20,13 +19,13 @@ end_here o xs is = ap (last_or o) is
 pub linked_turn : (figure : Figure) (p q : Coordinates) (qs : List Coordinates) →
     chain_spans figure p (q ∷ qs) ≡ record { from = p; to = q } ∷ chain_spans figure (figure_end figure (record { from = p; to = q })) qs
 unfolding polyline_spans rect_spans
-linked_turn figures.Line p q qs = refl
-linked_turn (figures.Rect filled) p q qs = refl
+linked_turn Figure.Line p q qs = refl
+linked_turn (Figure.Rect filled) p q qs = refl
 
 pub linked_end : (figure : Figure) (p : Coordinates) (qs : List Coordinates) → qs ≡ [] → chain_spans figure p qs ≡ []
 unfolding polyline_spans rect_spans
-linked_end figures.Line p qs is = ap (polyline_spans p) is
-linked_end (figures.Rect filled) p qs is = ap (rect_spans p) is
+linked_end Figure.Line p qs is = ap (polyline_spans p) is
+linked_end (Figure.Rect filled) p qs is = ap (rect_spans p) is
 
 pub paired_turn : (p q : Coordinates) (ps : List Coordinates) → pair_spans (p ∷ q ∷ ps) ≡ record { from = p; to = q } ∷ pair_spans ps
 unfolding pair_spans

@@ -1,8 +1,6 @@
-use Rattle.nap_draw.proofs.Common.{Bool, Coordinates, Displacement, DrawFault, Drawing, Entry, EqualCurrent, Err, List, MayCome, ModeZeroIsBase, None, Ok, Option, Result, RuleResult, ShapeKind, Some, State, WellMade, Work, [], after, and_then, ap, arc_points, arith, at_least_one, at_most_limit, attributes, circle_closed, cons_if_all, displaced_point, displaced_points, drop, entry_result, false, first_and_more, length, ltb, min, moves_of, multi_of, nat_tests, option_and_then, option_map, outline, pen_point, point_at, points_limit, points_reached, poly_points, refl, shape_end, shape_on, shape_result, slice_get, steps_limit, suc, sym, take, true, unwrap_or, with_pen, with_pen_at, with_pen_moved, ℕ, ◌-◌, ◌<◌, ◌∙◌, ◌∷◌, ◌≡◌, ◌≤◌}
-use Rattle.nap_list.specs.declared.attribute.Pen.TheVariants as pens
+use Rattle.nap_draw.proofs.Common.{Bool, Coordinates, Displacement, DrawFault, Drawing, Entry, EqualCurrent, Err, List, MayCome, ModeZeroIsBase, None, Ok, Option, Pen, Result, RuleResult, ShapeKind, Some, State, WellMade, Work, [], after, and_then, ap, arc_points, arith, at_least_one, at_most_limit, attributes, circle_closed, cons_if_all, displaced_point, displaced_points, drop, entry_result, false, first_and_more, length, ltb, min, moves_of, multi_of, nat_tests, option_and_then, option_map, outline, pen_point, point_at, points_limit, points_reached, poly_points, refl, shape_end, shape_on, shape_result, slice_get, steps_limit, suc, sym, take, true, unwrap_or, with_pen, with_pen_at, with_pen_moved, ℕ, ◌-◌, ◌<◌, ◌∙◌, ◌∷◌, ◌≡◌, ◌≤◌}
 use Rattle.nap_draw.proofs.Walks.{left_by}
 use Rattle.nap_draw.specs.declared.fault.DrawFault.TheVariants.{Missing, ManyPoints}
-use Rattle.nap_list.specs.declared.shape.ShapeKind.TheVariants as kinds
 use Rattle.nap_draw.proofs.Cuts.{moves_turn, run_some, one_at_most}
 
 -- The points of arcs and polygons, and the rules that draw them.
@@ -50,18 +48,18 @@ arc_made p ms ps some few is =
     (omega (arith, r.0, l), omega (arith, r.1, l))
 
 pub holds_shape : (kind : ShapeKind) (filled : Bool) (d : Drawing) (ps : List Coordinates) → EqualCurrent (attributes (shape_on kind filled d ps)) d
-holds_shape kinds.Arc filled d ps = record { pen = tt; pel = refl; colour = refl; texture = refl; text = tt }
-holds_shape kinds.Poly filled d ps = record { pen = tt; pel = refl; colour = refl; texture = refl; text = tt }
+holds_shape ShapeKind.Arc filled d ps = record { pen = tt; pel = refl; colour = refl; texture = refl; text = tt }
+holds_shape ShapeKind.Poly filled d ps = record { pen = tt; pel = refl; colour = refl; texture = refl; text = tt }
 
 -- a shape through these points is well made
 pub shape_made : (kind : ShapeKind) (filled : Bool) (d : Drawing) (p : Coordinates) (ps : List Coordinates) → 0 < length ps → length ps ≤ steps_limit →
     WellMade (shape_on kind filled d (outline kind (p ∷ ps)))
-shape_made kinds.Arc filled d p ps some few = round_length p ps some few
-shape_made kinds.Poly filled d p ps some few = (omega arith, omega arith)
+shape_made ShapeKind.Arc filled d p ps some few = round_length p ps some few
+shape_made ShapeKind.Poly filled d p ps some few = (omega arith, omega arith)
 
 pub shape_comes : (kind : ShapeKind) (filled : Bool) (d : Drawing) (ps : List Coordinates) (t : State) → MayCome t (shape_on kind filled d ps)
-shape_comes kinds.Arc filled d ps t = tt
-shape_comes kinds.Poly filled d ps t = tt
+shape_comes ShapeKind.Arc filled d ps t = tt
+shape_comes ShapeKind.Poly filled d ps t = tt
 
 -- some points have a last one
 last_is : (p : Coordinates) (ps : List Coordinates) → (q : Coordinates) × (slice_get (p ∷ ps) (length ps) ≡ Some q)
@@ -69,7 +67,7 @@ last_is p [] = (p, refl)
 last_is p (q ∷ qs) = last_is q qs
 
 last_there : (p : Coordinates) (ps : List Coordinates) (d : Drawing) (q : Coordinates) →
-    with_pen_at (slice_get (p ∷ ps) (length (p ∷ ps) - 1)) d ≡ with_pen (pens.At (unwrap_or (slice_get (p ∷ ps) (length (p ∷ ps) - 1)) q)) d
+    with_pen_at (slice_get (p ∷ ps) (length (p ∷ ps) - 1)) d ≡ with_pen (Pen.At (unwrap_or (slice_get (p ∷ ps) (length (p ∷ ps) - 1)) q)) d
 last_there p ps d q =
     let n : suc (length ps) - 1 ≡ length ps = omega arith in
     let is = ap (slice_get (p ∷ ps)) n ∙ (last_is p ps).1 in
@@ -77,16 +75,16 @@ last_there p ps d q =
 
 -- the state after a shape through these points
 pub shape_leaves : (kind : ShapeKind) (filled : Bool) (s : State) (p : Coordinates) (ps : List Coordinates) → ModeZeroIsBase s.drawing.base s.drawing.colour →
-    after s (shape_on kind filled s.drawing (outline kind (p ∷ ps))) ≡ with_pen_moved s (pens.At (shape_end kind p (outline kind (p ∷ ps))))
-shape_leaves kinds.Arc filled s p ps mode =
-    left_by s (shape_on kinds.Arc filled s.drawing (circle_closed (p ∷ ps))) (holds_shape kinds.Arc filled s.drawing (circle_closed (p ∷ ps))) mode ∙ ap (λ (d : Drawing). record s { drawing = d; last = None }) (round_there p ps)
+    after s (shape_on kind filled s.drawing (outline kind (p ∷ ps))) ≡ with_pen_moved s (Pen.At (shape_end kind p (outline kind (p ∷ ps))))
+shape_leaves ShapeKind.Arc filled s p ps mode =
+    left_by s (shape_on ShapeKind.Arc filled s.drawing (circle_closed (p ∷ ps))) (holds_shape ShapeKind.Arc filled s.drawing (circle_closed (p ∷ ps))) mode ∙ ap (λ (d : Drawing). record s { drawing = d; last = None }) (round_there p ps)
   where
     round_there : (p : Coordinates) (ps : List Coordinates) →
-        with_pen_at (slice_get (circle_closed (p ∷ ps)) (length (circle_closed (p ∷ ps)) - 1)) s.drawing ≡ with_pen (pens.At (shape_end kinds.Arc p (circle_closed (p ∷ ps)))) s.drawing
+        with_pen_at (slice_get (circle_closed (p ∷ ps)) (length (circle_closed (p ∷ ps)) - 1)) s.drawing ≡ with_pen (Pen.At (shape_end ShapeKind.Arc p (circle_closed (p ∷ ps)))) s.drawing
     round_there p [] = last_there p [] s.drawing p
     round_there p (q ∷ []) = last_there p (q ∷ p ∷ []) s.drawing p
     round_there p (q ∷ r ∷ rs) = last_there p (q ∷ r ∷ rs) s.drawing p
-shape_leaves kinds.Poly filled s p ps mode = left_by s (shape_on kinds.Poly filled s.drawing (p ∷ ps)) (holds_shape kinds.Poly filled s.drawing (p ∷ ps)) mode
+shape_leaves ShapeKind.Poly filled s p ps mode = left_by s (shape_on ShapeKind.Poly filled s.drawing (p ∷ ps)) (holds_shape ShapeKind.Poly filled s.drawing (p ∷ ps)) mode
 
 few_ok : (ms : List Displacement) → length ms ≤ steps_limit → at_most_limit ms ≡ Ok ms
 few_ok ms few = let test : ltb steps_limit (length ms) ≡ false = grind (arith, nat_tests) in rw test refl
@@ -97,8 +95,8 @@ few_not ms many = let test : ltb steps_limit (length ms) ≡ true = grind (arith
 -- the points of a shape, by those after the first
 
 pub outlined : (kind : ShapeKind) (p : Coordinates) (ms : List Displacement) → displaced_points kind p ms ≡ option_map (λ qs. outline kind (p ∷ qs)) (points_reached p ms)
-outlined kinds.Arc p ms = refl
-outlined kinds.Poly p ms = refl
+outlined ShapeKind.Arc p ms = refl
+outlined ShapeKind.Poly p ms = refl
 
 -- the rules of a shape, after their checks
 

@@ -1,5 +1,4 @@
-use Rattle.nap_draw.proofs.Common.{CodeFits, CodeValuesAreInRange, DrawnValuesAreInRange, NoOperands, OpcodesAreDrawn, RuleFits, RunsJoin, TextByteRule, WholeOperandFirst, arith, left_out_opcode, length-append, operands, refl, ◌++◌}
-use Rattle.nap_codes.specs.declared.opcode.Opcode.TheVariants as opcodes
+use Rattle.nap_draw.proofs.Common.{CodeFits, CodeValuesAreInRange, DrawnValuesAreInRange, NoOperands, Opcode, OpcodesAreDrawn, RuleFits, RunsJoin, TextByteRule, WholeOperandFirst, arith, left_out_opcode, length-append, operands, refl, ◌++◌}
 use Rattle.nap_draw.proofs.Cuts.{operands_chunk}
 use Rattle.nap_draw.proofs.Fits as fits
 use Rattle.nap_draw.proofs.RangeLemmas as ranges
@@ -23,9 +22,9 @@ code_values_are_in_range = code_ranges.code_values_are_in_range
 
 pub opcodes_are_drawn : OpcodesAreDrawn
 unfolding left_out_opcode
-opcodes_are_drawn opcodes.IncrementalPoint e = let bad : ⊥ = cc in absurd bad
-opcodes_are_drawn opcodes.IncrementalLine e = let bad : ⊥ = cc in absurd bad
-opcodes_are_drawn opcodes.IncrementalPolyFilled e = let bad : ⊥ = cc in absurd bad
+opcodes_are_drawn Opcode.IncrementalPoint e = let bad : ⊥ = cc in absurd bad
+opcodes_are_drawn Opcode.IncrementalLine e = let bad : ⊥ = cc in absurd bad
+opcodes_are_drawn Opcode.IncrementalPolyFilled e = let bad : ⊥ = cc in absurd bad
 opcodes_are_drawn _ e = tt
 
 pub whole_operand_first : WholeOperandFirst

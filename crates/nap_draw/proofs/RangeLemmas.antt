@@ -1,12 +1,4 @@
-use Rattle.nap_draw.proofs.Common.{All, All-append, All-cons, All-drop, All-head, All-map, All-nil, All-tail, All-take, All-weaker, AllInRange, AreaInRange, Base, BaseInRange, Bool, CharSize, Colour, ColourInRange, Components, Coordinates, Displacement, DrawFault, Drawing, DrawingInRange, DrawnValuesAreInRange, Entry, Err, HasSixteenBitParts, IfOk, IfSome, InRange, InkInRange, IsAddress, IsInRange, IsInSquare, IsWord, List, None, Ok, Opcode, Option, Pen, PenInRange, Result, RuleResult, SizeInRange, Some, Span, StateInRange, Work, [], absolute_spans, addresses, and_then, arc_on, arc_points, area_of, area_part, arith, at_least_one, at_most_limit, blink, blink_rule, blinks, circle_closed, colour_of, colour_of_base, cond_both, cons_if_all, corner, cut_operands, displaced_point, displacements_are_unique, domain_in, domain_rule, drop, entries_result, entry_result, eqb, false, field_on, field_rule, first_and_more, first_move, from_pen, ink_of, is_known, last_or, map, map_rule, moves, moves_of, multi_of, ok_or, operands, option_and_then, option_map, option_or, pen_point, pen_result, point_at, point_entry, points_are_inside, points_at, points_reached, poly_on, poly_points, polyline_spans, rect_chain_spans, rect_on, refl, relative_spans, rule, rule_result, select_rule, selected_colour, set_color_rule, set_color_under, shape_from_pen, shape_from_point, single_of, slice_get, slice_index, span, span_by, span_line_entry, subst, suc, take, text_rule, texture_rule, true, unwrap_or, values_are_in_range, walk, with_colour, with_drawing, with_pen_at, zero, ℕ, ◌++◌, ◌+◌, ◌-◌, ◌/◌, ◌∷◌, ◌≡◌}
-use Rattle.nap_codes.specs.declared.opcode.Opcode.TheVariants as opcodes
-use Rattle.nap_list.specs.declared.attribute.Pen.TheVariants as pens
-use Rattle.nap_list.specs.declared.attribute.Area.TheVariants as areas
-use Rattle.nap_list.specs.declared.attribute.Base.TheVariants as bases
-use Rattle.nap_list.specs.declared.attribute.CharSize.TheVariants as sizes
-use Rattle.nap_list.specs.declared.attribute.Colour.TheVariants as colours
-use Rattle.nap_list.specs.declared.entry.Entry.TheVariants as entries
-use Rattle.nap_draw.specs.declared.fault.DrawFault.TheVariants as faults
+use Rattle.nap_draw.proofs.Common.{All, All-append, All-cons, All-drop, All-head, All-map, All-nil, All-tail, All-take, All-weaker, AllInRange, Area, AreaInRange, Base, BaseInRange, Bool, CharSize, Colour, ColourInRange, Components, Coordinates, Displacement, DrawFault, Drawing, DrawingInRange, DrawnValuesAreInRange, Entry, Err, HasSixteenBitParts, IfOk, IfSome, InRange, InkInRange, IsAddress, IsInRange, IsInSquare, IsWord, List, None, Ok, Opcode, Option, Pen, PenInRange, Result, RuleResult, SizeInRange, Some, Span, StateInRange, Work, [], absolute_spans, addresses, and_then, arc_on, arc_points, area_of, area_part, arith, at_least_one, at_most_limit, blink, blink_rule, blinks, circle_closed, colour_of, colour_of_base, cond_both, cons_if_all, corner, cut_operands, displaced_point, displacements_are_unique, domain_in, domain_rule, drop, entries_result, entry_result, eqb, false, field_on, field_rule, first_and_more, first_move, from_pen, ink_of, is_known, last_or, map, map_rule, moves, moves_of, multi_of, ok_or, operands, option_and_then, option_map, option_or, pen_point, pen_result, point_at, point_entry, points_are_inside, points_at, points_reached, poly_on, poly_points, polyline_spans, rect_chain_spans, rect_on, refl, relative_spans, rule, rule_result, select_rule, selected_colour, set_color_rule, set_color_under, shape_from_pen, shape_from_point, single_of, slice_get, slice_index, span, span_by, span_line_entry, subst, suc, take, text_rule, texture_rule, true, unwrap_or, values_are_in_range, walk, with_colour, with_drawing, with_pen_at, zero, ℕ, ◌++◌, ◌+◌, ◌-◌, ◌/◌, ◌∷◌, ◌≡◌}
 use Rattle.nap_draw.proofs.WalkRanges.{setting_ranged, unwrap_ranged, with_pen_at_ranged, with_colour_ranged, at_ranged, walk_ranged}
 
 -- The results of rules are in range.
@@ -160,9 +152,9 @@ any_ranged (Ok x) next each = each x
 any_ranged (Err fault) next each = tt
 
 pen_point_ranged : (pen : Pen) → PenInRange pen → IfOk (pen_point pen) IsInSquare
-pen_point_ranged (pens.At p) there = there
-pen_point_ranged pens.Start there = (omega arith, omega arith)
-pen_point_ranged pens.After there = tt
+pen_point_ranged (Pen.At p) there = there
+pen_point_ranged Pen.Start there = (omega arith, omega arith)
+pen_point_ranged Pen.After there = tt
 
 ink_ranged : (d : Drawing) → DrawingInRange d → InkInRange (ink_of d)
 ink_ranged d r = record { pel = r.pel; colour = r.colour; texture = r.texture }
@@ -268,7 +260,7 @@ module _ (work : Work) (r : StateInRange work.state) where
   area_ranged : (o : Option Coordinates) (m : Displacement) → IfSome o IsInSquare → IfOk (area_part o m) AreaInRange
   area_ranged o m from = at (span_by o m) (span_by_ranged o m from)
     where
-      at : (s : Option Span) → IfSome s SpanInRange → IfOk (ok_or (option_map (λ s. areas.Part s.from s.to) s) faults.Outside) AreaInRange
+      at : (s : Option Span) → IfSome s SpanInRange → IfOk (ok_or (option_map (λ s. Area.Part s.from s.to) s) DrawFault.Outside) AreaInRange
       at None there = tt
       at (Some s) there = there
 
@@ -286,7 +278,7 @@ module _ (work : Work) (r : StateInRange work.state) where
       at (m ∷ []) = from_pen_area (pen_point work.state.drawing.pen) m (pen_point_ranged work.state.drawing.pen r.drawing.pen)
       at (m ∷ n ∷ ms) = area_ranged (point_at m) n (point_at_ranged m)
 
-  size_ranged : (o : Option Displacement) (size : CharSize) → IfSome o IsInRange → SizeInRange size → SizeInRange (unwrap_or (option_map sizes.Given o) size)
+  size_ranged : (o : Option Displacement) (size : CharSize) → IfSome o IsInRange → SizeInRange size → SizeInRange (unwrap_or (option_map CharSize.Given o) size)
   size_ranged None size new old = old
   size_ranged (Some m) size new old = new
 
@@ -326,8 +318,8 @@ module _ (work : Work) (r : StateInRange work.state) where
       })
 
   base_colour_ranged : (base : Base) → BaseInRange base → ColourInRange (colour_of_base base)
-  base_colour_ranged (bases.Own origin) new = tt
-  base_colour_ranged (bases.Direct grb) new = new
+  base_colour_ranged (Base.Own origin) new = tt
+  base_colour_ranged (Base.Direct grb) new = new
 
   selected_ranged : (chosen : List ℕ) → All IsAddress chosen → ColourInRange (selected_colour work.state.drawing.base chosen)
   selected_ranged [] all = base_colour_ranged work.state.drawing.base r.drawing.base
@@ -346,21 +338,21 @@ module _ (work : Work) (r : StateInRange work.state) where
       by : (known : Bool) → is_known a grb work.state.known ≡ known → Ranged (map_rule work a grb)
       by true is = rw is (silent_ranged work work.state.drawing r r.drawing)
       by false is = rw is (
-        All-cons InRange (entries.Map a grb) [] (address, parts) (All-nil InRange),
+        All-cons InRange (Entry.Map a grb) [] (address, parts) (All-nil InRange),
         record { drawing = r.drawing; definition = r.definition; last = tt; known = setting_ranged a grb work.state.known address parts r.known },
       )
 
   direct_ranged : (grb : Components) → HasSixteenBitParts grb →
-      Ranged (Ok (rule_result (with_drawing work (record work.state.drawing { base = bases.Direct grb; colour = colours.Direct grb })) []))
+      Ranged (Ok (rule_result (with_drawing work (record work.state.drawing { base = Base.Direct grb; colour = Colour.Direct grb })) []))
   direct_ranged grb parts =
       silent_ranged work _ r (record { pen = r.drawing.pen; pel = r.drawing.pel; base = parts; colour = parts; texture = r.drawing.texture; text = r.drawing.text })
 
   colours_as_ranged : (colour : Colour) (grb : Components) → ColourInRange colour → HasSixteenBitParts grb → Ranged (set_color_under work colour grb)
-  colours_as_ranged (colours.Own origin) grb chosen parts = direct_ranged grb parts
-  colours_as_ranged (colours.Direct old) grb chosen parts = direct_ranged grb parts
-  colours_as_ranged (colours.Front a) grb chosen parts = maps_ranged a grb chosen parts
-  colours_as_ranged (colours.Pair a b) grb chosen parts = maps_ranged a grb chosen.0 parts
-  colours_as_ranged (colours.ByReset preset) grb chosen parts = tt
+  colours_as_ranged (Colour.Own origin) grb chosen parts = direct_ranged grb parts
+  colours_as_ranged (Colour.Direct old) grb chosen parts = direct_ranged grb parts
+  colours_as_ranged (Colour.Front a) grb chosen parts = maps_ranged a grb chosen parts
+  colours_as_ranged (Colour.Pair a b) grb chosen parts = maps_ranged a grb chosen.0 parts
+  colours_as_ranged (Colour.ByReset preset) grb chosen parts = tt
 
   set_color_ranged : (xs : List (List ℕ)) → All (All IsWord) xs → Ranged (set_color_rule work xs)
   set_color_ranged [] all = tt
@@ -379,7 +371,7 @@ module _ (work : Work) (r : StateInRange work.state) where
       )
 
   blinks_ranged : (k : ℕ) (groups : List (List ℕ)) → All (All IsWord) groups → AllInRange (blinks k work.state.drawing.colour groups)
-  blinks_ranged k [] all = All-cons InRange (entries.BlinkEnd work.state.drawing.colour) [] r.drawing.colour (All-nil InRange)
+  blinks_ranged k [] all = All-cons InRange (Entry.BlinkEnd work.state.drawing.colour) [] r.drawing.colour (All-nil InRange)
   blinks_ranged k (group ∷ groups) all =
       All-map InRange (blink k work.state.drawing.colour) (group ∷ groups)
       (All-weaker (All IsWord) (λ group. InRange (blink k work.state.drawing.colour group)) (blink_one_ranged k) (group ∷ groups) all)
@@ -390,35 +382,35 @@ module _ (work : Work) (r : StateInRange work.state) where
       list_ranged (blinks k work.state.drawing.colour (operands (k + 3) run)) (blinks_ranged k (operands (k + 3) run) (operands_ranged (k + 3) run all))
 
   rule_ranged : (op : Opcode) (run : List ℕ) → All IsWord run → Ranged (rule work op run)
-  rule_ranged opcodes.Reset run all = one_ranged (entries.Reset (slice_index run 0) (slice_index run 1) work.state.drawing.pen) (word_ranged run 0 all, word_ranged run 1 all, r.drawing.pen)
-  rule_ranged opcodes.Domain run all = domain_ranged run all
-  rule_ranged opcodes.Text run all = text_ranged run all
-  rule_ranged opcodes.Texture run all = texture_ranged run all
-  rule_ranged opcodes.PointSetAbs run all = any_ranged _ _ (λ ms. goes_ranged (points_at ms) (points_at_ranged ms))
-  rule_ranged opcodes.PointSetRel run all = from_pen_ranged run _ (λ p ms _. goes_ranged (points_reached p ms) (reached_ranged p ms))
-  rule_ranged opcodes.PointAbs run all = any_ranged _ _ (λ ms. points_ranged (points_at ms) (points_at_ranged ms))
-  rule_ranged opcodes.PointRel run all = from_pen_ranged run _ (λ p ms _. points_ranged (points_reached p ms) (reached_ranged p ms))
-  rule_ranged opcodes.LineAbs run all = from_pen_ranged run _ (λ p ms from. strokes_ranged _ (lines_ranged p (points_at ms) from (points_at_ranged ms)))
-  rule_ranged opcodes.LineRel run all = from_pen_ranged run _ (λ p ms from. strokes_ranged _ (lines_ranged p (points_reached p ms) from (reached_ranged p ms)))
-  rule_ranged opcodes.SetLineAbs run all = any_ranged _ _ (λ ms. strokes_ranged (absolute_spans ms) (between_ranged ms))
-  rule_ranged opcodes.SetLineRel run all = any_ranged _ _ (λ ms. strokes_ranged (relative_spans ms) (away_ranged ms))
-  rule_ranged opcodes.ArcOutlined run all = shape_from_pen_ranged (arc_on false) arc_points (arc_new false) arc_ranged run
-  rule_ranged opcodes.ArcFilled run all = shape_from_pen_ranged (arc_on true) arc_points (arc_new true) arc_ranged run
-  rule_ranged opcodes.SetArcOutlined run all = shape_from_point_ranged (arc_on false) arc_points (arc_new false) arc_ranged run
-  rule_ranged opcodes.SetArcFilled run all = shape_from_point_ranged (arc_on true) arc_points (arc_new true) arc_ranged run
-  rule_ranged opcodes.RectOutlined run all = from_pen_ranged run _ (λ p ms from. rects_ranged false (rect_chain_spans p ms) (across_ranged p ms from))
-  rule_ranged opcodes.RectFilled run all = from_pen_ranged run _ (λ p ms from. rects_ranged true (rect_chain_spans p ms) (across_ranged p ms from))
-  rule_ranged opcodes.SetRectOutlined run all = any_ranged _ _ (λ ms. rects_ranged false (relative_spans ms) (away_ranged ms))
-  rule_ranged opcodes.SetRectFilled run all = any_ranged _ _ (λ ms. rects_ranged true (relative_spans ms) (away_ranged ms))
-  rule_ranged opcodes.PolyOutlined run all = shape_from_pen_ranged (poly_on false) poly_points (poly_new false) poly_ranged run
-  rule_ranged opcodes.PolyFilled run all = shape_from_pen_ranged (poly_on true) poly_points (poly_new true) poly_ranged run
-  rule_ranged opcodes.SetPolyOutlined run all = shape_from_point_ranged (poly_on false) poly_points (poly_new false) poly_ranged run
-  rule_ranged opcodes.SetPolyFilled run all = shape_from_point_ranged (poly_on true) poly_points (poly_new true) poly_ranged run
-  rule_ranged opcodes.Field run all = field_ranged (moves_of work run)
-  rule_ranged opcodes.SetColor run all = set_color_ranged (operands work.domain.multi run) (operands_ranged work.domain.multi run all)
-  rule_ranged opcodes.Wait run all = list_ranged (map entries.Wait run) (All-map InRange entries.Wait run all)
-  rule_ranged opcodes.SelectColor run all = select_ranged run all
-  rule_ranged opcodes.Blink run all = blink_ranged run all
+  rule_ranged Opcode.Reset run all = one_ranged (Entry.Reset (slice_index run 0) (slice_index run 1) work.state.drawing.pen) (word_ranged run 0 all, word_ranged run 1 all, r.drawing.pen)
+  rule_ranged Opcode.Domain run all = domain_ranged run all
+  rule_ranged Opcode.Text run all = text_ranged run all
+  rule_ranged Opcode.Texture run all = texture_ranged run all
+  rule_ranged Opcode.PointSetAbs run all = any_ranged _ _ (λ ms. goes_ranged (points_at ms) (points_at_ranged ms))
+  rule_ranged Opcode.PointSetRel run all = from_pen_ranged run _ (λ p ms _. goes_ranged (points_reached p ms) (reached_ranged p ms))
+  rule_ranged Opcode.PointAbs run all = any_ranged _ _ (λ ms. points_ranged (points_at ms) (points_at_ranged ms))
+  rule_ranged Opcode.PointRel run all = from_pen_ranged run _ (λ p ms _. points_ranged (points_reached p ms) (reached_ranged p ms))
+  rule_ranged Opcode.LineAbs run all = from_pen_ranged run _ (λ p ms from. strokes_ranged _ (lines_ranged p (points_at ms) from (points_at_ranged ms)))
+  rule_ranged Opcode.LineRel run all = from_pen_ranged run _ (λ p ms from. strokes_ranged _ (lines_ranged p (points_reached p ms) from (reached_ranged p ms)))
+  rule_ranged Opcode.SetLineAbs run all = any_ranged _ _ (λ ms. strokes_ranged (absolute_spans ms) (between_ranged ms))
+  rule_ranged Opcode.SetLineRel run all = any_ranged _ _ (λ ms. strokes_ranged (relative_spans ms) (away_ranged ms))
+  rule_ranged Opcode.ArcOutlined run all = shape_from_pen_ranged (arc_on false) arc_points (arc_new false) arc_ranged run
+  rule_ranged Opcode.ArcFilled run all = shape_from_pen_ranged (arc_on true) arc_points (arc_new true) arc_ranged run
+  rule_ranged Opcode.SetArcOutlined run all = shape_from_point_ranged (arc_on false) arc_points (arc_new false) arc_ranged run
+  rule_ranged Opcode.SetArcFilled run all = shape_from_point_ranged (arc_on true) arc_points (arc_new true) arc_ranged run
+  rule_ranged Opcode.RectOutlined run all = from_pen_ranged run _ (λ p ms from. rects_ranged false (rect_chain_spans p ms) (across_ranged p ms from))
+  rule_ranged Opcode.RectFilled run all = from_pen_ranged run _ (λ p ms from. rects_ranged true (rect_chain_spans p ms) (across_ranged p ms from))
+  rule_ranged Opcode.SetRectOutlined run all = any_ranged _ _ (λ ms. rects_ranged false (relative_spans ms) (away_ranged ms))
+  rule_ranged Opcode.SetRectFilled run all = any_ranged _ _ (λ ms. rects_ranged true (relative_spans ms) (away_ranged ms))
+  rule_ranged Opcode.PolyOutlined run all = shape_from_pen_ranged (poly_on false) poly_points (poly_new false) poly_ranged run
+  rule_ranged Opcode.PolyFilled run all = shape_from_pen_ranged (poly_on true) poly_points (poly_new true) poly_ranged run
+  rule_ranged Opcode.SetPolyOutlined run all = shape_from_point_ranged (poly_on false) poly_points (poly_new false) poly_ranged run
+  rule_ranged Opcode.SetPolyFilled run all = shape_from_point_ranged (poly_on true) poly_points (poly_new true) poly_ranged run
+  rule_ranged Opcode.Field run all = field_ranged (moves_of work run)
+  rule_ranged Opcode.SetColor run all = set_color_ranged (operands work.domain.multi run) (operands_ranged work.domain.multi run all)
+  rule_ranged Opcode.Wait run all = list_ranged (map Entry.Wait run) (All-map InRange Entry.Wait run all)
+  rule_ranged Opcode.SelectColor run all = select_ranged run all
+  rule_ranged Opcode.Blink run all = blink_ranged run all
   rule_ranged _ run all = list_ranged [] (All-nil InRange)
 
 pub drawn_values_are_in_range : DrawnValuesAreInRange

@@ -1,5 +1,4 @@
-use Rattle.nap_draw.proofs.Common.{Bool, Coordinates, Displacement, List, None, Option, Some, Span, Work, [], absolute_spans, ap, arith, cond, cons_if_all, entries_result, false, from_pen, length, option_map, pair_spans, point_at, points_at, rect_chain_spans, rect_on, refl, rule, span, true, ℕ, ◌%◌, ◌∙◌, ◌∷◌, ◌≡◌}
-use Rattle.nap_codes.specs.declared.opcode.Opcode.TheVariants as opcodes
+use Rattle.nap_draw.proofs.Common.{Bool, Coordinates, Displacement, List, None, Opcode, Option, Some, Span, Work, [], absolute_spans, ap, arith, cond, cons_if_all, entries_result, false, from_pen, length, option_map, pair_spans, point_at, points_at, rect_chain_spans, rect_on, refl, rule, span, true, ℕ, ◌%◌, ◌∙◌, ◌∷◌, ◌≡◌}
 
 -- Other forms of rules.
 
@@ -24,6 +23,6 @@ between_points (m ∷ n ∷ ms) even =
 -- the row of rectangles, filled or not
 
 pub rect_rule : (work : Work) (filled : Bool) (run : List ℕ) →
-    rule work (cond filled opcodes.RectFilled opcodes.RectOutlined) run ≡ from_pen work run (λ p ms. entries_result work (rect_on filled) (rect_chain_spans p ms))
+    rule work (cond filled Opcode.RectFilled Opcode.RectOutlined) run ≡ from_pen work run (λ p ms. entries_result work (rect_on filled) (rect_chain_spans p ms))
 rect_rule work true run = refl
 rect_rule work false run = refl

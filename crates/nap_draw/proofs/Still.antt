@@ -1,6 +1,5 @@
 use Rattle.nap_draw.proofs.Common.{AllFit, Colour, Drawing, Entry, EqualCurrent, LastChar, List, MayCome, ModeZeroIsBase, None, Option, State, StatesAgree, WellMade, [], add-one, after, agreeing_fits, ap, arith, attributes, blink, drop, drop-cons, drop_min, get_or, length, map, min, operand_words, operands, refl, single_of, subst, sym, take, take_min, walk, ℕ, ◌%◌, ◌++◌, ◌+◌, ◌<◌, ◌∙◌, ◌∷◌, ◌≡◌}
 use Rattle.nap_draw.proofs.ByteRuns.{operands_chunk}
-use Rattle.nap_list.specs.declared.entry.Entry.TheVariants as entries
 use Rattle.nap_draw.proofs.Walks.{left_by}
 
 -- Entries that leave the attributes as they are.
@@ -33,7 +32,7 @@ module _ {A : Type 0} (d : Drawing) (entry : A → Entry) (by : Stays d entry) w
       let then = stays_fit s None xs (after shown e) (subst (λ (t : State). StatesAgree t (after shown e)) there here.1) in
       ((here.0, then.0), subst (λ (t : State). StatesAgree (walk t (map entry xs)) (walk (after shown e) (map entry xs))) (sym there) then.1)
 
-pub wait_stays : (d : Drawing) → Stays d entries.Wait
+pub wait_stays : (d : Drawing) → Stays d Entry.Wait
 wait_stays d = record {
   stays = λ word s last. refl;
   holds = λ word. record { pen = tt; pel = tt; colour = tt; texture = tt; text = tt };
@@ -51,7 +50,7 @@ blink_stays d k mode = record {
 
 -- a blink of its parts
 pub blink_made : (k m : ℕ) (colour : Colour) (group address times : List ℕ) (a on off delay : ℕ) → m ≡ min k (length group) → address ≡ take m group → times ≡ drop m group →
-    a ≡ single_of address → on ≡ get_or times 0 0 → off ≡ get_or times 1 0 → delay ≡ get_or times 2 0 → entries.Blink a on off delay colour ≡ blink k colour group
+    a ≡ single_of address → on ≡ get_or times 0 0 → off ≡ get_or times 1 0 → delay ≡ get_or times 2 0 → Entry.Blink a on off delay colour ≡ blink k colour group
 blink_made k m colour group address times a on off delay part front back at one two three =
     let by = front ∙ (ap (λ (m : ℕ). take m group) part ∙ take_min k group) in
     let further = back ∙ (ap (λ (m : ℕ). drop m group) part ∙ drop_min k group) in
@@ -59,10 +58,10 @@ blink_made k m colour group address times a on off delay part front back at one 
 
 -- the first pause of what is left
 pub pause_left : (run : List ℕ) (i word : ℕ) → i < length run → word ≡ get_or run i 0 % 64 →
-    map entries.Wait (operand_words (drop i run)) ≡ entries.Wait word ∷ map entries.Wait (operand_words (drop (i + 1) run))
+    map Entry.Wait (operand_words (drop i run)) ≡ Entry.Wait word ∷ map Entry.Wait (operand_words (drop (i + 1) run))
 pause_left run i word inside made =
     let front : drop i run ≡ get_or run i 0 ∷ drop (i + 1) run = rw add-one (drop-cons run i 0 inside) in
-    ap (λ (left : List ℕ). map entries.Wait (operand_words left)) front ∙ ap (λ (word : ℕ). entries.Wait word ∷ map entries.Wait (operand_words (drop (i + 1) run))) (sym made)
+    ap (λ (left : List ℕ). map Entry.Wait (operand_words left)) front ∙ ap (λ (word : ℕ). Entry.Wait word ∷ map Entry.Wait (operand_words (drop (i + 1) run))) (sym made)
 
 -- the first blink of what is left
 pub blink_left : (k size : ℕ) (colour : Colour) (left group rest : List ℕ) (e : Entry) → size ≡ k + 3 → left ≡ group ++ rest → length group ≡ min size (length left) → 0 < length left →

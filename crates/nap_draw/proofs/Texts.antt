@@ -1,5 +1,4 @@
-use Rattle.nap_draw.proofs.Common.{All, AllFit, CharSet, Entry, EqualCurrent, IsTextByte, LastChar, List, MayCome, ModeZeroIsBase, None, Ok, Option, Some, State, StatesAgree, TextByteRule, TextStep, [], after, agreeing_fits, ap, arith, attributes, code_as, code_rule, drawn_text, format_effector, hand_of, last_after, last_char_of_text, length, refl, rule_result, start_drawing, subst, suc, sym, text_entries_in, text_entry, text_entry_as, text_leaves, typed_made, walk, with_pen, ℕ, ◌++◌, ◌∙◌, ◌∷◌, ◌≡◌}
-use Rattle.nap_list.specs.declared.attribute.Pen.TheVariants as pens
+use Rattle.nap_draw.proofs.Common.{All, AllFit, CharSet, Entry, EqualCurrent, IsTextByte, LastChar, List, MayCome, ModeZeroIsBase, None, Ok, Option, Pen, Some, State, StatesAgree, TextByteRule, TextStep, [], after, agreeing_fits, ap, arith, attributes, code_as, code_rule, drawn_text, format_effector, hand_of, last_after, last_char_of_text, length, refl, rule_result, start_drawing, subst, suc, sym, text_entries_in, text_entry, text_entry_as, text_leaves, typed_made, walk, with_pen, ℕ, ◌++◌, ◌∙◌, ◌∷◌, ◌≡◌}
 use Rattle.nap_draw.proofs.Walks.{left_by}
 
 -- The state after the characters of a text and the moves among them.
@@ -29,15 +28,15 @@ typed_comes s set code = by (format_effector code)
     by None = tt
 
 after_byte : State → CharSet → ℕ → State
-after_byte s set code = record s { drawing = with_pen pens.After s.drawing; last = last_char_of_text set code }
+after_byte s set code = record s { drawing = with_pen Pen.After s.drawing; last = last_char_of_text set code }
 
 -- the state after the entry
 typed_left : (s : State) (set : CharSet) (code : ℕ) → ModeZeroIsBase s.drawing.base s.drawing.colour →
-    after s (text_entry set (hand_of s.drawing) code) ≡ record s { drawing = with_pen pens.After s.drawing; last = last_char_of_text set code }
+    after s (text_entry set (hand_of s.drawing) code) ≡ record s { drawing = with_pen Pen.After s.drawing; last = last_char_of_text set code }
 typed_left s set code mode = by (format_effector code) (typed_holds s set code)
   where
     by : (step : Option TextStep) → EqualCurrent (attributes (text_entry_as step set (hand_of s.drawing) code)) s.drawing →
-        after s (text_entry_as step set (hand_of s.drawing) code) ≡ record s { drawing = with_pen pens.After s.drawing; last = last_after (text_entry_as step set (hand_of start_drawing) code) }
+        after s (text_entry_as step set (hand_of s.drawing) code) ≡ record s { drawing = with_pen Pen.After s.drawing; last = last_after (text_entry_as step set (hand_of start_drawing) code) }
     by (Some step) holds = left_by s (text_entry_as (Some step) set (hand_of s.drawing) code) holds mode
     by None holds = left_by s (text_entry_as None set (hand_of s.drawing) code) holds mode
 
@@ -49,7 +48,7 @@ text_is s set (code ∷ codes) mode =
     ap (λ (t : State). e ∷ drawn_text t set codes) (typed_left s set code mode) ∙ ap (λ (list : List Entry). e ∷ list) (text_is (after_byte s set code) set codes mode)
 
 pub text_left : (s : State) (set : CharSet) (codes front : List ℕ) (code : ℕ) (last : Option LastChar) → ModeZeroIsBase s.drawing.base s.drawing.colour → codes ≡ front ++ code ∷ [] →
-    last ≡ last_char_of_text set code → walk s (drawn_text s set codes) ≡ record s { drawing = with_pen pens.After s.drawing; last = last }
+    last ≡ last_char_of_text set code → walk s (drawn_text s set codes) ≡ record s { drawing = with_pen Pen.After s.drawing; last = last }
 text_left s set codes front code last mode is leaves =
     ap (walk s) (text_is s set codes mode) ∙ (text_leaves s set (hand_of s.drawing) codes front code is ∙ rw leaves (typed_left s set code mode))
 

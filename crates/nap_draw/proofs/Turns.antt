@@ -1,4 +1,4 @@
-use Rattle.nap_draw.proofs.Common.{Coordinates, Displacement, List, None, Option, Some, [], ap, cons_if_all, corner, displaced_point, option_map, point_at, points_at, points_reached, rect_chain_spans, rect_spans, relative_spans, span, span_by, ◌∙◌, ◌∷◌, ◌≡◌}
+use Rattle.nap_draw.proofs.Common.{Coordinates, Displacement, IfSome, List, None, Option, Some, [], ap, cons_if_all, corner, displaced_point, option_map, point_at, points_at, points_reached, rect_chain_spans, rect_spans, relative_spans, span, span_by, unwrap_or, ◌∙◌, ◌∷◌, ◌≡◌}
 
 -- The points that operands reach, after one more.
 
@@ -10,6 +10,12 @@ cons_if_all_more l x y next is first = is ∙ ap (λ o. cons_if_all o next) firs
 -- the first point is outside the unit screen
 pub cons_if_all_none : {A : Type 0} (l : Option (List A)) (x : Option A) (next : A → Option (List A)) → l ≡ cons_if_all x next → x ≡ None → l ≡ None
 cons_if_all_none l x next is first = is ∙ ap (λ o. cons_if_all o next) first
+
+-- a walk that moved to the first point, if there is one
+pub moved_to : (old new : Coordinates) (l : Option (List Coordinates)) (x : Option Coordinates) (next : Coordinates → Option (List Coordinates)) → new ≡ unwrap_or x old →
+    l ≡ cons_if_all x next → IfSome x (λ y. (new ≡ y) × (l ≡ option_map (λ xs. y ∷ xs) (next y)))
+moved_to old new l None next place is = tt
+moved_to old new l (Some y) next place is = (place, is)
 
 pub points_turn : (ms rest : List Displacement) (m : Displacement) → ms ≡ m ∷ rest → points_at ms ≡ cons_if_all (point_at m) (λ _. points_at rest)
 unfolding points_at

@@ -1,7 +1,4 @@
 use Rattle.nap_draw.proofs.Common.{All, All-cons, All-filter, All-head, All-nil, All-tail, All-take, AllInRange, Attributes, Base, BaseInRange, Colour, ColourInRange, Components, Coordinates, Drawing, DrawingInRange, Entry, Hand, HandInRange, HasSixteenBitParts, IfSome, InRange, Ink, InkInRange, IsAddress, IsByte, IsInRange, IsInSquare, LastChar, List, MapColour, MapColourInRange, None, OpenDefinition, OpenedInRange, Option, Pen, PenInRange, Some, State, StateInRange, TextInRange, TextureInRange, [], after, arith, attributes, base_after, colour_code, colour_only, cond_both, corner, definition_after, effect_on_drawing, eqb, hand_attributes, ink_attributes, known_after, last_after, length, pen_only, reset, restored_drawing, slice_get, start_drawing, start_text, start_texture, suc, take, unwrap_or, walk, with_attributes, with_colour, with_known_colour, with_pen, with_pen_at, without_address, zero, ℕ, ◌%◌, ◌-◌, ◌/◌, ◌∷◌}
-use Rattle.nap_list.specs.declared.attribute.Pen.TheVariants as pens
-use Rattle.nap_list.specs.declared.attribute.Colour.TheVariants as colours
-use Rattle.nap_list.specs.declared.entry.Entry.TheVariants as entries
 
 -- A walk over entries in range, from a state in range, leads to a state in range.
 
@@ -45,20 +42,20 @@ of_pen : (pen : Pen) → PenInRange pen → AttributesInRange (pen_only pen)
 of_pen pen r = record { pen = r; pel = tt; colour = tt; texture = tt; text = tt }
 
 attributes_ranged : (e : Entry) → InRange e → AttributesInRange (attributes e)
-attributes_ranged (entries.Point at pel colour) r = record { pen = tt; pel = r.1; colour = r.2; texture = tt; text = tt }
-attributes_ranged (entries.Line from to ink) r = of_ink ink r.2
-attributes_ranged (entries.Arc filled points ink) r = of_ink ink r.1
-attributes_ranged (entries.Rect filled from to ink) r = of_ink ink r.2
-attributes_ranged (entries.Poly filled points ink) r = of_ink ink r.1
-attributes_ranged (entries.Char set code hand) r = of_hand hand r.1
-attributes_ranged (entries.TextMove step hand) r = of_hand hand r.1
-attributes_ranged (entries.ToEol hand) r = of_hand hand r
-attributes_ranged (entries.Blink addr on off delay colour) r = of_colour colour r.4
-attributes_ranged (entries.BlinkEnd colour) r = of_colour colour r
-attributes_ranged (entries.BlinkMark on colour) r = of_colour colour r
-attributes_ranged (entries.Field area pen) r = of_pen pen r.1
-attributes_ranged (entries.Reset first second pen) r = of_pen pen r.2
-attributes_ranged (entries.Clear pen) r = of_pen pen r
+attributes_ranged (Entry.Point at pel colour) r = record { pen = tt; pel = r.1; colour = r.2; texture = tt; text = tt }
+attributes_ranged (Entry.Line from to ink) r = of_ink ink r.2
+attributes_ranged (Entry.Arc filled points ink) r = of_ink ink r.1
+attributes_ranged (Entry.Rect filled from to ink) r = of_ink ink r.2
+attributes_ranged (Entry.Poly filled points ink) r = of_ink ink r.1
+attributes_ranged (Entry.Char set code hand) r = of_hand hand r.1
+attributes_ranged (Entry.TextMove step hand) r = of_hand hand r.1
+attributes_ranged (Entry.ToEol hand) r = of_hand hand r
+attributes_ranged (Entry.Blink addr on off delay colour) r = of_colour colour r.4
+attributes_ranged (Entry.BlinkEnd colour) r = of_colour colour r
+attributes_ranged (Entry.BlinkMark on colour) r = of_colour colour r
+attributes_ranged (Entry.Field area pen) r = of_pen pen r.1
+attributes_ranged (Entry.Reset first second pen) r = of_pen pen r.2
+attributes_ranged (Entry.Clear pen) r = of_pen pen r
 attributes_ranged _ r = record { pen = tt; pel = tt; colour = tt; texture = tt; text = tt }
 
 -- they become current
@@ -68,11 +65,11 @@ unwrap_ranged P None x some other = other
 unwrap_ranged P (Some y) x some other = some
 
 base_ranged : (base : Base) (colour : Option Colour) → BaseInRange base → IfSome colour ColourInRange → BaseInRange (base_after base colour)
-base_ranged base (Some (colours.Direct grb)) current shown = shown
-base_ranged base (Some (colours.Own origin)) current shown = current
-base_ranged base (Some (colours.Front address)) current shown = current
-base_ranged base (Some (colours.Pair front back)) current shown = current
-base_ranged base (Some (colours.ByReset preset)) current shown = current
+base_ranged base (Some (Colour.Direct grb)) current shown = shown
+base_ranged base (Some (Colour.Own origin)) current shown = current
+base_ranged base (Some (Colour.Front address)) current shown = current
+base_ranged base (Some (Colour.Pair front back)) current shown = current
+base_ranged base (Some (Colour.ByReset preset)) current shown = current
 base_ranged base None current shown = current
 
 taking_ranged : (d : Drawing) (h : Attributes) → DrawingInRange d → AttributesInRange h → DrawingInRange (with_attributes d h)
@@ -92,7 +89,7 @@ with_pen_ranged pen d there r = record { pen = there; pel = r.pel; base = r.base
 
 pub with_pen_at_ranged : (o : Option Coordinates) (d : Drawing) → IfSome o IsInSquare → DrawingInRange d → DrawingInRange (with_pen_at o d)
 with_pen_at_ranged None d inside r = r
-with_pen_at_ranged (Some p) d inside r = with_pen_ranged (pens.At p) d inside r
+with_pen_at_ranged (Some p) d inside r = with_pen_ranged (Pen.At p) d inside r
 
 pub with_colour_ranged : (colour : Colour) (d : Drawing) → ColourInRange colour → DrawingInRange d → DrawingInRange (with_colour colour d)
 with_colour_ranged colour d new r = record { pen = r.pen; pel = r.pel; base = r.base; colour = new; texture = r.texture; text = r.text }
@@ -120,32 +117,32 @@ saved_ranged None d saved r = r
 saved_ranged (Some opened) d saved r = saved.saved
 
 drawn_ranged : (o : Option OpenDefinition) (d : Drawing) (e : Entry) → IfSome o OpenedInRange → DrawingInRange d → InRange e → DrawingInRange (effect_on_drawing o d e)
-drawn_ranged o d (entries.Point at pel colour) saved r new = with_pen_ranged (pens.At at) d new.0 r
-drawn_ranged o d (entries.Line from to ink) saved r new = with_pen_ranged (pens.At to) d new.1 r
-drawn_ranged o d (entries.Arc filled points ink) saved r new =
+drawn_ranged o d (Entry.Point at pel colour) saved r new = with_pen_ranged (Pen.At at) d new.0 r
+drawn_ranged o d (Entry.Line from to ink) saved r new = with_pen_ranged (Pen.At to) d new.1 r
+drawn_ranged o d (Entry.Arc filled points ink) saved r new =
     with_pen_at_ranged (slice_get points (length points - 1)) d (at_ranged IsInSquare points (length points - 1) new.0) r
-drawn_ranged o d (entries.Rect filled from to ink) saved r new = with_pen_ranged (pens.At (corner from to)) d (new.1.0, new.0.1) r
-drawn_ranged o d (entries.Poly filled points ink) saved r new = with_pen_at_ranged (slice_get points 0) d (at_ranged IsInSquare points 0 new.0) r
-drawn_ranged o d (entries.Char set code hand) saved r new = with_pen_ranged pens.After d tt r
-drawn_ranged o d (entries.TextMove step hand) saved r new = with_pen_ranged pens.After d tt r
-drawn_ranged o d (entries.ToEol hand) saved r new = with_pen_ranged pens.After d tt r
-drawn_ranged o d (entries.Clear pen) saved r new = with_pen_ranged pens.After d tt r
-drawn_ranged o d (entries.Field area pen) saved r new = with_pen_ranged pens.After d tt r
-drawn_ranged o d (entries.Reset first second pen) saved r new = reset_ranged first second d r
-drawn_ranged o d (entries.Map addr grb) saved r new = with_colour_ranged (colours.Front addr) d new.0 r
-drawn_ranged o d (entries.GlyphStart code) saved r new = with_pen_ranged pens.Start d tt r
-drawn_ranged o d (entries.MaskStart mask) saved r new = with_pen_ranged pens.Start d tt r
-drawn_ranged o d entries.DefEnd saved r new = saved_ranged o d saved r
+drawn_ranged o d (Entry.Rect filled from to ink) saved r new = with_pen_ranged (Pen.At (corner from to)) d (new.1.0, new.0.1) r
+drawn_ranged o d (Entry.Poly filled points ink) saved r new = with_pen_at_ranged (slice_get points 0) d (at_ranged IsInSquare points 0 new.0) r
+drawn_ranged o d (Entry.Char set code hand) saved r new = with_pen_ranged Pen.After d tt r
+drawn_ranged o d (Entry.TextMove step hand) saved r new = with_pen_ranged Pen.After d tt r
+drawn_ranged o d (Entry.ToEol hand) saved r new = with_pen_ranged Pen.After d tt r
+drawn_ranged o d (Entry.Clear pen) saved r new = with_pen_ranged Pen.After d tt r
+drawn_ranged o d (Entry.Field area pen) saved r new = with_pen_ranged Pen.After d tt r
+drawn_ranged o d (Entry.Reset first second pen) saved r new = reset_ranged first second d r
+drawn_ranged o d (Entry.Map addr grb) saved r new = with_colour_ranged (Colour.Front addr) d new.0 r
+drawn_ranged o d (Entry.GlyphStart code) saved r new = with_pen_ranged Pen.Start d tt r
+drawn_ranged o d (Entry.MaskStart mask) saved r new = with_pen_ranged Pen.Start d tt r
+drawn_ranged o d Entry.DefEnd saved r new = saved_ranged o d saved r
 drawn_ranged o d _ saved r new = r
 
 definition_ranged : (o : Option OpenDefinition) (d : Drawing) (e : Entry) → IfSome o OpenedInRange → DrawingInRange d → InRange e → IfSome (definition_after o d e) OpenedInRange
-definition_ranged o d (entries.GlyphStart code) saved r new = record { what = new; saved = r }
-definition_ranged o d (entries.MaskStart mask) saved r new = record { what = tt; saved = r }
-definition_ranged o d entries.DefEnd saved r new = tt
+definition_ranged o d (Entry.GlyphStart code) saved r new = record { what = new; saved = r }
+definition_ranged o d (Entry.MaskStart mask) saved r new = record { what = tt; saved = r }
+definition_ranged o d Entry.DefEnd saved r new = tt
 definition_ranged o d _ saved r new = saved
 
 last_ranged : (e : Entry) → InRange e → IfSome (last_after e) (λ (last : LastChar). IsByte last.code)
-last_ranged (entries.Char set code hand) new = new.0
+last_ranged (Entry.Char set code hand) new = new.0
 last_ranged _ new = tt
 
 pub setting_ranged : (addr : ℕ) (grb : Components) (known : List MapColour) → IsAddress addr → HasSixteenBitParts grb → All MapColourInRange known →
@@ -155,8 +152,8 @@ setting_ranged addr grb known there parts all =
     (All-take MapColourInRange 15 (without_address addr known) (All-filter _ MapColourInRange known all))
 
 known_ranged : (known : List MapColour) (e : Entry) → InRange e → All MapColourInRange known → All MapColourInRange (known_after known e)
-known_ranged known (entries.Map addr grb) new all = setting_ranged addr grb known new.0 new.1 all
-known_ranged known (entries.Reset first second pen) new all =
+known_ranged known (Entry.Map addr grb) new all = setting_ranged addr grb known new.0 new.1 all
+known_ranged known (Entry.Reset first second pen) new all =
     cond_both (eqb (colour_code first) 0) _ _ (All MapColourInRange) (λ _. all) (λ _. All-nil MapColourInRange)
 known_ranged known _ new all = all
 

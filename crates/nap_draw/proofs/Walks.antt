@@ -1,5 +1,4 @@
 use Rattle.nap_draw.proofs.Common.{Bool, Coordinates, DrawFault, Drawing, Entry, EqualCurrent, Figure, List, MayCome, ModeZeroIsBase, None, Ok, Option, Pen, Result, RuleResult, Some, State, WellMade, Work, [], after, ap, arith, attributes, corner, definition_after, effect_on_drawing, entries_result, false, figure_end, figure_entry, known_after, last_after, last_or, length, map, option_map, point_entry, rect_on, refl, slice_get, span_line_entry, suc, sym, taking_nothing, walk, with_pen, with_pen_moved_to, ◌-◌, ◌∙◌, ◌∷◌, ◌≡◌}
-use Rattle.nap_draw.specs.declared.spans.Figure.TheVariants as figures
 
 -- The points that entries which only move the pen lead to.
 
@@ -70,8 +69,8 @@ rect_lands filled = record {
 }
 
 pub stroke_lands : (figure : Figure) → Lands (figure_entry figure) (figure_end figure)
-stroke_lands figures.Line = line_lands
-stroke_lands (figures.Rect filled) = rect_lands filled
+stroke_lands Figure.Line = line_lands
+stroke_lands (Figure.Rect filled) = rect_lands filled
 
 pub itself : {A : Type 0} (o : Option A) → o ≡ option_map (λ x. x) o
 itself None = refl

@@ -1,9 +1,5 @@
-use Rattle.std.specs.Prelude.{◌≡◌, ◌≢◌, Bool, List, [], Result, Ok, Err, IfOk}
-use Rattle.nap_list.specs.declared.entry.Entry.{Entry}
-use Rattle.nap_list.specs.declared.sink.Sink.{Ghosts}
-use Rattle.nap_list.specs.Putting.{StopsAmid}
-use Rattle.nap_list.specs.State.{AllFit}
-use Rattle.nap_list.specs.Agreement.{StatesAgree}
+use Rattle.std.specs.Prelude.{Bool, Err, IfOk, List, Ok, Result, [], ◌≡◌, ◌≢◌}
+use Rattle.nap_draw.specs.Names.{AllFit, Entry, Ghosts, StatesAgree, StopsAmid}
 use Rattle.nap_draw.specs.declared.fault.DrawFault.{DrawFault}
 use Rattle.nap_draw.specs.declared.work.Work.{Work}
 use Rattle.nap_draw.specs.Rule.{RuleResult}

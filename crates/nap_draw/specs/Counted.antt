@@ -1,8 +1,5 @@
-use Rattle.std.specs.Prelude.{ℕ, ◌≡◌, Bool, true, List, length, Option, Some, None, Result, Ok}
-use Rattle.nap_values.specs.Coarse.{Course}
-use Rattle.nap_values.specs.Coordinates.{Coordinates, displaced_point}
-use Rattle.nap_values.specs.Operands.{operand_words, multi_of}
-use Rattle.nap_list.specs.declared.sink.Sink.{Ghosts}
+use Rattle.std.specs.Prelude.{Bool, List, None, Ok, Option, Result, Some, length, true, ℕ, ◌≡◌}
+use Rattle.nap_draw.specs.Names.{Coordinates, Course, Ghosts, displaced_point, multi_of, operand_words}
 use Rattle.nap_draw.specs.declared.fault.DrawFault.{DrawFault}
 use Rattle.nap_draw.specs.declared.work.Work.{Work}
 use Rattle.nap_draw.specs.Geometry.{last_or}

@@ -1,18 +1,14 @@
-use Rattle.std.specs.Prelude.{◌≡◌, ◌⊎◌, Bool, true, false, List, Result, Ok, Err}
-use Rattle.nap_list.specs.declared.entry.Entry.{Entry}
-use Rattle.nap_list.specs.declared.sink.SinkFault.{SinkFault}
-use Rattle.nap_list.specs.declared.sink.SinkFault.TheVariants as sink_faults
+use Rattle.std.specs.Prelude.{Bool, Err, List, Ok, Result, false, true, ◌≡◌, ◌⊎◌}
+use Rattle.nap_draw.specs.Names.{BreaksAmid, Entry, SinkFault, StopsAmid}
 use Rattle.nap_draw.specs.declared.work.Effects.{Effects}
 use Rattle.nap_draw.specs.declared.work.Work.{Work}
 use Rattle.nap_draw.specs.declared.fault.DrawFault.{DrawFault}
-use Rattle.nap_draw.specs.declared.fault.DrawFault.TheVariants as faults
-use Rattle.nap_list.specs.Putting.{StopsAmid, BreaksAmid}
 use Rattle.nap_draw.specs.Rule.{RuleResult}
 
 -- the fault of a code whose entry a sink didn't take
 abbrev pub fault_of : SinkFault → DrawFault
-fault_of sink_faults.Memory = faults.Memory
-fault_of sink_faults.Write = faults.Sink
+fault_of SinkFault.Memory = DrawFault.Memory
+fault_of SinkFault.Write = DrawFault.Sink
 
 -- the cause of a fault
 pub data Cause : Type 0 where
@@ -24,8 +20,8 @@ pub data Cause : Type 0 where
   device : Cause
 
 abbrev pub draw_cause : DrawFault → Cause
-draw_cause faults.Memory = memory
-draw_cause faults.Sink = device
+draw_cause DrawFault.Memory = memory
+draw_cause DrawFault.Sink = device
 draw_cause _ = stream
 
 -- What a sink took of the entries of a rule's result when this fault was answered. Memory can run out before the first

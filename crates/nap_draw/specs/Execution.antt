@@ -1,32 +1,10 @@
-use Rattle.std.specs.Prelude.{ℕ, min, ◌≡◌, ◌<◌, ◌≤◌, ◌⊎◌, ◌+◌, ◌++◌, vec_len, vec_capacity, IsErrOf, Bool, true, false, List, [], ◌∷◌, Option, Some, None, option_map, Result, Ok, Err}
-use Rattle.std.specs.declared.vec.Vec.{Vec}
-use Rattle.nap_values.specs.Coordinates.{Coordinates, Displacement}
-use Rattle.nap_list.specs.declared.attribute.Ink.{Ink}
-use Rattle.nap_list.specs.declared.attribute.Pen.{Pen}
-use Rattle.nap_list.specs.declared.attribute.Pen.TheVariants as pens
-use Rattle.nap_list.specs.declared.entry.Entry.{Entry}
-use Rattle.nap_list.specs.declared.entry.Entry.TheVariants as shapes
-use Rattle.nap_list.specs.declared.shape.ShapeKind.{ShapeKind}
-use Rattle.nap_list.specs.declared.shape.ShapeKind.TheVariants as kinds
-use Rattle.nap_list.specs.declared.state.Definition.{Definition}
-use Rattle.nap_list.specs.declared.state.Definition.TheVariants as definitions
-use Rattle.nap_list.specs.declared.state.Drawing.{Drawing}
-use Rattle.nap_list.specs.declared.state.State.{State}
-use Rattle.nap_list.specs.declared.sink.Sink.{Ghosts}
-use Rattle.nap_list.specs.declared.sink.SinkFault.{SinkFault}
-use Rattle.nap_list.specs.Entry.{attributes, WellMade}
+use Rattle.std.specs.Prelude.{Bool, Err, IsErrOf, List, None, Ok, Option, Result, Some, [], false, min, option_map, true, vec_capacity, vec_len, ℕ, ◌++◌, ◌+◌, ◌<◌, ◌∷◌, ◌≡◌, ◌≤◌, ◌⊎◌}
+use Rattle.nap_draw.specs.Names.{Coordinates, Definition, Displacement, Drawing, Entry, EqualCurrent, Ghosts, Ink, MayCome, Pen, ShapeKind, SinkFault, State, Vec, WellMade, attributes, corner, ink_of, outline, shape_on, sink_model_of, walk, with_pen}
 use Rattle.nap_list.specs.Putting as puts
-use Rattle.nap_list.specs.Shapes.{outline, shape_on}
-use Rattle.nap_list.specs.SinkModels.{sink_model_of}
-use Rattle.nap_list.specs.State.{MayCome, walk, with_pen, corner, ink_of}
-use Rattle.nap_list.specs.Agreement.{EqualCurrent}
 use Rattle.nap_draw.specs.declared.fault.DrawFault.{DrawFault}
-use Rattle.nap_draw.specs.declared.fault.DrawFault.TheVariants as faults
-use Rattle.nap_draw.specs.declared.spans.Span.{Span}
-use Rattle.nap_draw.specs.declared.spans.Figure.{Figure}
-use Rattle.nap_draw.specs.declared.spans.Figure.TheVariants as figures
-use Rattle.nap_draw.specs.declared.shapes.ShapeStart.{ShapeStart}
-use Rattle.nap_draw.specs.declared.shapes.ShapeStart.TheVariants as starts
+use Rattle.nap_draw.specs.declared.figures.Span.{Span}
+use Rattle.nap_draw.specs.declared.figures.Figure.{Figure}
+use Rattle.nap_draw.specs.declared.figures.ShapeStart.{ShapeStart}
 use Rattle.nap_draw.specs.declared.work.Work.{Work}
 use Rattle.nap_draw.specs.Rule.{RuleResult, entry_result, shape_from_pen, shape_from_point}
 use Rattle.nap_draw.specs.Geometry.{polyline_spans, arc_points, poly_points}
@@ -39,8 +17,8 @@ use Rattle.nap_draw.specs.Acts.{WantsBy, WantsFor, GivesSome}
 -- all points were decoded, and the list is those of the scratch list
 abbrev pub Fills : {A : Type 0} → Option (List A) → List A → Result (Unit {0}) DrawFault → Type 0
 Fills all list (Ok _) = all ≡ Some list
-Fills all list (Err faults.Outside) = all ≡ None
-Fills {A} all list (Err faults.Memory) = (xs : List A) × (all ≡ Some xs)
+Fills all list (Err DrawFault.Outside) = all ≡ None
+Fills {A} all list (Err DrawFault.Memory) = (xs : List A) × (all ≡ Some xs)
 Fills all list (Err _) = ⊥
 
 -- the progress of decoding a run: the points so far come before the rest, and are in the scratch list unless memory ran
@@ -52,7 +30,7 @@ pub record Filling {A : Type 0} (all rest : Option (List A)) (full : Bool) (Keep
 
 -- A scratch list gave no memory back, and lacked it only if it had none for a point of each of n bytes.
 abbrev pub LacksPlaces : {X Z A : Type 0} → ℕ → Vec X Z → Vec X Z → Result A DrawFault → Type 0
-LacksPlaces n old new r = (vec_capacity old ≤ vec_capacity new) × (IsErrOf r faults.Memory → vec_capacity old < n)
+LacksPlaces n old new r = (vec_capacity old ≤ vec_capacity new) × (IsErrOf r DrawFault.Memory → vec_capacity old < n)
 
 -- The progress of decoding a run of `all` bytes, of which these are left, into the scratch list: it gave no memory back,
 -- has no more points than bytes were read, and memory ran out only if it had none for a point of each byte.
@@ -63,31 +41,31 @@ pub record Holding {X Z : Type 0} (old now : Vec X Z) (all left : ℕ) (full : B
 
 -- the entry of a figure on a span, with these attributes
 abbrev pub figure_with_ink : Figure → Ink → Span → Entry
-figure_with_ink figures.Line ink s = shapes.Line s.from s.to ink
-figure_with_ink (figures.Rect filled) ink s = shapes.Rect filled s.from s.to ink
+figure_with_ink Figure.Line ink s = Entry.Line s.from s.to ink
+figure_with_ink (Figure.Rect filled) ink s = Entry.Rect filled s.from s.to ink
 
 -- the position of the pen after a figure on a span
 abbrev pub figure_end : Figure → Span → Coordinates
-figure_end figures.Line s = s.to
-figure_end (figures.Rect filled) s = corner s.from s.to
+figure_end Figure.Line s = s.to
+figure_end (Figure.Rect filled) s = corner s.from s.to
 
 abbrev pub figure_entry : Figure → Drawing → Span → Entry
 figure_entry figure d s = figure_with_ink figure (ink_of d) s
 
 -- the points of an arc or polygon from this point by displacements
 abbrev pub displaced_points : ShapeKind → Coordinates → List Displacement → Option (List Coordinates)
-displaced_points kinds.Arc p ms = arc_points p ms
-displaced_points kinds.Poly p ms = poly_points p ms
+displaced_points ShapeKind.Arc p ms = arc_points p ms
+displaced_points ShapeKind.Poly p ms = poly_points p ms
 
 -- the result of a shape, by the kind of its start
 abbrev pub shape_from : ShapeStart → Work → List ℕ → (Drawing → List Coordinates → Entry) → (Coordinates → List Displacement → Option (List Coordinates)) → Result RuleResult DrawFault
-shape_from starts.AtPen = shape_from_pen
-shape_from starts.AtOperand = shape_from_point
+shape_from ShapeStart.AtPen = shape_from_pen
+shape_from ShapeStart.AtOperand = shape_from_point
 
 -- how many of n bytes of a run belong to the operand that a shape starts at
 abbrev pub start_size : ShapeStart → ℕ → ℕ → ℕ
-start_size starts.AtPen k n = 0
-start_size starts.AtOperand k n = min k n
+start_size ShapeStart.AtPen k n = 0
+start_size ShapeStart.AtOperand k n = min k n
 
 -- the result of a shape through these points, or Outside
 abbrev pub shape_result : Work → ShapeKind → Bool → Coordinates → Option (List Coordinates) → Result RuleResult DrawFault
@@ -100,12 +78,12 @@ with_pen_moved s pen = record s { drawing = with_pen pen s.drawing; last = None 
 -- the state after entries that move the pen, the last of them to this point
 abbrev pub with_pen_moved_to : State → Option Coordinates → State
 with_pen_moved_to s None = s
-with_pen_moved_to s (Some p) = with_pen_moved s (pens.At p)
+with_pen_moved_to s (Some p) = with_pen_moved s (Pen.At p)
 
 -- the entry that opens a definition
 abbrev pub definition_start : Definition → Entry
-definition_start (definitions.Glyph code) = shapes.GlyphStart code
-definition_start (definitions.Mask mask) = shapes.MaskStart mask
+definition_start (Definition.Glyph code) = Entry.GlyphStart code
+definition_start (Definition.Mask mask) = Entry.MaskStart mask
 
 -- pairs of points as spans
 unfoldable pub pair_spans : List Coordinates → List Span
@@ -126,8 +104,8 @@ rect_spans p (q ∷ qs) = record { from = p; to = q } ∷ rect_spans (corner p q
 
 -- the spans of a figure that continues from where it leaves the pen
 abbrev pub chain_spans : Figure → Coordinates → List Coordinates → List Span
-chain_spans figures.Line p qs = polyline_spans p qs
-chain_spans (figures.Rect filled) p qs = rect_spans p qs
+chain_spans Figure.Line p qs = polyline_spans p qs
+chain_spans (Figure.Rect filled) p qs = rect_spans p qs
 
 -- the list was put: the sink took all of it, or a prefix up to an entry that it didn't take
 abbrev pub PutsList : {S A : Type 0} → Ghosts S → List Entry → S → S → Result A SinkFault → Type 0
@@ -142,8 +120,8 @@ PutsSoFar g s t whole rest = puts.Putting (sink_model_of g) s t whole rest
 abbrev pub ActsByRule : {S A : Type 0} → (g : Ghosts S) → (A → Bool) → Type 0 → Result RuleResult DrawFault → Work → Work → S → S → Result A DrawFault → Type 0
 ActsByRule g clears short by w v s t (Ok x) = (entries : List Entry) × (by ≡ Ok (record { entries = entries; work = v; clears = clears x })) × g.took s entries t
     × (g.state t ≡ walk (g.state s) entries) × (g.failed s ≡ false → g.failed t ≡ false)
-ActsByRule g clears short by w v s t (Err fault) = (v ≡ w) × DrawsBy g.took g.broke g.failed by s t fault (draw_cause fault) × (fault ≡ faults.Sink → g.failed t ≡ true)
-    × (g.failed s ≡ false → g.failed t ≡ true → fault ≡ faults.Sink) × (fault ≡ faults.Memory → short ⊎ WantsFor g s)
+ActsByRule g clears short by w v s t (Err fault) = (v ≡ w) × DrawsBy g.took g.broke g.failed by s t fault (draw_cause fault) × (fault ≡ DrawFault.Sink → g.failed t ≡ true)
+    × (g.failed s ≡ false → g.failed t ≡ true → fault ≡ DrawFault.Sink) × (fault ≡ DrawFault.Memory → short ⊎ WantsFor g s)
 
 -- the answer says nothing about macros, which stay
 abbrev pub clears_nothing : Unit {0} → Bool
@@ -152,8 +130,8 @@ clears_nothing _ = false
 -- a character or control acted by the result of its rule, and lacked memory or a device only for its entries
 pub record AppliesControl {S : Type 0} (g : Ghosts S) (by : Result RuleResult DrawFault) (w v : Work) (s t : S) (r : Result (Unit {0}) DrawFault) : Type 0 where
   pub does : ActsByRule g clears_nothing ⊥ by w v s t r
-  pub wants : IsErrOf r faults.Memory → WantsBy g by s t
-  pub gives : IsErrOf r faults.Sink → GivesSome by
+  pub wants : IsErrOf r DrawFault.Memory → WantsBy g by s t
+  pub gives : IsErrOf r DrawFault.Sink → GivesSome by
 
 -- the rule refuses the code with this fault, if the cause is the stream
 abbrev pub RuleRefuses : Result RuleResult DrawFault → DrawFault → Cause → Type 0

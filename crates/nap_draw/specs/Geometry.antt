@@ -1,8 +1,6 @@
-use Rattle.std.specs.Prelude.{List, [], ◌∷◌, Option, Some, None, option_map}
-use Rattle.nap_values.specs.Coordinates.{Coordinates, Displacement, point_at, displaced_point}
-use Rattle.nap_list.specs.Shapes.{circle_closed}
-use Rattle.nap_list.specs.State.{corner}
-use Rattle.nap_draw.specs.declared.spans.Span.{Span}
+use Rattle.std.specs.Prelude.{List, None, Option, Some, [], option_map, ◌∷◌}
+use Rattle.nap_draw.specs.Names.{Coordinates, Displacement, circle_closed, corner, displaced_point, point_at}
+use Rattle.nap_draw.specs.declared.figures.Span.{Span}
 
 -- The points that the operands of an opcode reach. The result is none if any of them is outside the unit screen.
 

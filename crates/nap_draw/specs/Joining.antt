@@ -1,16 +1,15 @@
-use Rattle.std.specs.Prelude.{ℕ, ◌≡◌, ◌*◌, List, ◌++◌, length, Ok, false, ⊤}
-use Rattle.nap_codes.specs.declared.opcode.Opcode.{Opcode}
-use Rattle.nap_codes.specs.declared.opcode.Opcode.TheVariants as opcodes
+use Rattle.std.specs.Prelude.{List, Ok, false, length, ℕ, ⊤, ◌*◌, ◌++◌, ◌≡◌}
+use Rattle.nap_draw.specs.Names.{Opcode}
 use Rattle.nap_draw.specs.declared.work.Work.{Work}
 use Rattle.nap_draw.specs.Rule.{RuleResult, rule}
 
 -- the opcodes whose runs canonical text joins (PROFILE.md, Canonical text)
 abbrev pub CanJoin : Opcode → Type 0
-CanJoin opcodes.PointAbs = ⊤
-CanJoin opcodes.LineAbs = ⊤
-CanJoin opcodes.SetLineAbs = ⊤
-CanJoin opcodes.SetRectOutlined = ⊤
-CanJoin opcodes.SetRectFilled = ⊤
+CanJoin Opcode.PointAbs = ⊤
+CanJoin Opcode.LineAbs = ⊤
+CanJoin Opcode.SetLineAbs = ⊤
+CanJoin Opcode.SetRectOutlined = ⊤
+CanJoin Opcode.SetRectFilled = ⊤
 CanJoin _ = ⊥
 
 -- the run is complete operands of k words

@@ -1,14 +1,5 @@
-use Rattle.std.specs.Prelude.{ℕ, ◌≡◌, ◌≤◌, List, [], ◌∷◌, ◌++◌, None, Ok, All, length}
-use Rattle.nap_values.specs.Laws.{IsWord}
-use Rattle.nap_codes.specs.declared.code.Code.{Code}
-use Rattle.nap_codes.specs.declared.code_set.CharSet.{CharSet}
-use Rattle.nap_codes.specs.declared.opcode.Opcode.{Opcode}
-use Rattle.nap_codes.specs.Tables.{left_out_opcode}
-use Rattle.nap_list.specs.declared.state.State.{State}
-use Rattle.nap_list.specs.Batches.{text_entry}
-use Rattle.nap_list.specs.State.{AllFit, walk, hand_of}
-use Rattle.nap_list.specs.Agreement.{StatesAgree}
-use Rattle.nap_list.specs.Range.{AllInRange, StateInRange}
+use Rattle.std.specs.Prelude.{All, List, None, Ok, [], length, ℕ, ◌++◌, ◌∷◌, ◌≡◌, ◌≤◌}
+use Rattle.nap_draw.specs.Names.{AllFit, AllInRange, CharSet, Code, IsWord, Opcode, State, StateInRange, StatesAgree, hand_of, left_out_opcode, text_entry, walk}
 use Rattle.nap_draw.specs.declared.work.Work.{Work}
 use Rattle.nap_draw.specs.Codes.{code_rule, text_code, IsMade}
 use Rattle.nap_draw.specs.Operands.{operands}

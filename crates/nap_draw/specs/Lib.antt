@@ -10,3 +10,4 @@ pub mod Joining
 pub mod Laws
 pub mod Limits
 pub mod Counted
+pub mod Names

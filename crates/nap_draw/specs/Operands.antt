@@ -1,6 +1,5 @@
-use Rattle.std.specs.Prelude.{ℕ, suc, zero, ◌-◌, List, [], ◌∷◌, ◌++◌, map}
-use Rattle.nap_values.specs.Coordinates.{Displacement}
-use Rattle.nap_values.specs.Operands.{multi_of, single_of}
+use Rattle.std.specs.Prelude.{List, [], map, suc, zero, ℕ, ◌++◌, ◌-◌, ◌∷◌}
+use Rattle.nap_draw.specs.Names.{Displacement, multi_of, single_of}
 
 -- the words cut into operands of k words, after an operand that still lacks a number of words
 unfoldable pub cut_operands : ℕ → ℕ → List ℕ → List ℕ → List (List ℕ)

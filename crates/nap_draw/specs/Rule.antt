@@ -1,32 +1,8 @@
-use Rattle.std.specs.Prelude.{ℕ, ◌+◌, ◌/◌, ◌%◌, ◌==◌, Bool, true, false, nat_lt, length, List, [], ◌∷◌, map, slice_get, slice_index, take, drop, Option, Some, None, option_map, option_and_then, ok_or, unwrap_or, ⊤, Result, Ok, Err, if◌then◌else◌}
-use Rattle.std.specs.Option.{option_or}
-use Rattle.nap_values.specs.Coordinates.{Coordinates, Displacement, point_at}
-use Rattle.nap_values.specs.Colours.{Components}
-use Rattle.nap_values.specs.Domains.{OperandLengths}
-use Rattle.nap_values.specs.Operands.{single_of, colour_of}
-use Rattle.nap_codes.specs.declared.opcode.Opcode.{Opcode}
-use Rattle.nap_codes.specs.declared.opcode.Opcode.TheVariants as opcodes
-use Rattle.nap_list.specs.declared.attribute.Pen.{Pen}
-use Rattle.nap_list.specs.declared.attribute.Pen.TheVariants as pens
-use Rattle.nap_list.specs.declared.attribute.Base.{Base}
-use Rattle.nap_list.specs.declared.attribute.Base.TheVariants as bases
-use Rattle.nap_list.specs.declared.attribute.CharSize.TheVariants as sizes
-use Rattle.nap_list.specs.declared.attribute.Colour.{Colour}
-use Rattle.nap_list.specs.declared.attribute.Colour.TheVariants as colours
-use Rattle.nap_list.specs.declared.attribute.Area.{Area}
-use Rattle.nap_list.specs.declared.attribute.Area.TheVariants as areas
-use Rattle.nap_list.specs.declared.entry.Entry.{Entry}
-use Rattle.nap_list.specs.declared.entry.Entry.TheVariants as entries
-use Rattle.nap_list.specs.declared.state.Drawing.{Drawing}
-use Rattle.nap_list.specs.Limits.{steps_limit}
-use Rattle.nap_list.specs.declared.state.State.{State}
-use Rattle.nap_list.specs.Known.{is_known, with_known_colour}
-use Rattle.nap_list.specs.Batches.{point_entry}
-use Rattle.nap_list.specs.State.{start, walk, ink_of, with_colour, with_pen_at}
+use Rattle.std.specs.Prelude.{Bool, Err, List, None, Ok, Option, Result, Some, [], drop, false, if◌then◌else◌, length, map, nat_lt, ok_or, option_and_then, option_map, slice_get, slice_index, take, true, unwrap_or, ℕ, ⊤, ◌%◌, ◌+◌, ◌/◌, ◌==◌, ◌∷◌}
+use Rattle.nap_draw.specs.Names.{Area, Base, CharSize, Colour, Components, Coordinates, Displacement, Drawing, Entry, Opcode, OperandLengths, Pen, State, colour_of, ink_of, is_known, option_or, point_at, point_entry, single_of, start, steps_limit, walk, with_colour, with_known_colour, with_pen_at}
 use Rattle.nap_draw.specs.declared.work.Work.{Work}
 use Rattle.nap_draw.specs.declared.fault.DrawFault.{DrawFault}
-use Rattle.nap_draw.specs.declared.fault.DrawFault.TheVariants as faults
-use Rattle.nap_draw.specs.declared.spans.Span.{Span}
+use Rattle.nap_draw.specs.declared.figures.Span.{Span}
 use Rattle.nap_draw.specs.Operands.{operands, moves, addresses}
 use Rattle.nap_draw.specs.Geometry.{last_or, points_at, points_reached, polyline_spans, span_by, absolute_spans, relative_spans, rect_chain_spans, arc_points, poly_points}
 
@@ -63,45 +39,45 @@ moves_of work run = moves work.domain.multi run
 
 -- the list, or Missing if it is empty
 abbrev pub at_least_one : {A : Type 0} → List A → Result (List A) DrawFault
-at_least_one [] = Err faults.Missing
+at_least_one [] = Err DrawFault.Missing
 at_least_one (x ∷ xs) = Ok (x ∷ xs)
 
 -- the point of the pen, or PenUnknown
 abbrev pub pen_point : Pen → Result Coordinates DrawFault
-pen_point (pens.At p) = Ok p
-pen_point pens.Start = Ok (record { x = 0; y = 0 })
-pen_point pens.After = Err faults.PenUnknown
+pen_point (Pen.At p) = Ok p
+pen_point Pen.Start = Ok (record { x = 0; y = 0 })
+pen_point Pen.After = Err DrawFault.PenUnknown
 
 -- the entries with the current attributes
 
 abbrev pub span_line_entry : Drawing → Span → Entry
-span_line_entry d s = entries.Line s.from s.to (ink_of d)
+span_line_entry d s = Entry.Line s.from s.to (ink_of d)
 
 abbrev pub rect_on : Bool → Drawing → Span → Entry
-rect_on filled d s = entries.Rect filled s.from s.to (ink_of d)
+rect_on filled d s = Entry.Rect filled s.from s.to (ink_of d)
 
 abbrev pub arc_on : Bool → Drawing → List Coordinates → Entry
-arc_on filled d points = entries.Arc filled points (ink_of d)
+arc_on filled d points = Entry.Arc filled points (ink_of d)
 
 abbrev pub poly_on : Bool → Drawing → List Coordinates → Entry
-poly_on filled d points = entries.Poly filled points (ink_of d)
+poly_on filled d points = Entry.Poly filled points (ink_of d)
 
 abbrev pub field_on : Drawing → Area → Entry
-field_on d area = entries.Field area d.pen
+field_on d area = Entry.Field area d.pen
 
 -- the result with an entry for each of these, or Outside
 abbrev pub entries_result : {A : Type 0} → Work → (Drawing → A → Entry) → Option (List A) → Result RuleResult DrawFault
-entries_result work entry None = Err faults.Outside
+entries_result work entry None = Err DrawFault.Outside
 entries_result work entry (Some shapes) = Ok (rule_result work (map (entry work.state.drawing) shapes))
 
 -- the result with one entry, or Outside
 abbrev pub entry_result : {A : Type 0} → Work → (Drawing → A → Entry) → Option A → Result RuleResult DrawFault
-entry_result work entry None = Err faults.Outside
+entry_result work entry None = Err DrawFault.Outside
 entry_result work entry (Some shape) = Ok (rule_result work (entry work.state.drawing shape ∷ []))
 
 -- the result of moving the pen to the last of these points, or Outside
 abbrev pub pen_result : Work → Option (List Coordinates) → Result RuleResult DrawFault
-pen_result work None = Err faults.Outside
+pen_result work None = Err DrawFault.Outside
 pen_result work (Some points) = Ok (rule_result (with_drawing work (with_pen_at (last_or None points) work.state.drawing)) [])
 
 -- the operand lengths that the word of DOMAIN sets
@@ -114,9 +90,9 @@ with_domain work domain words = record (with_drawing work (record work.state.dra
 
 -- DOMAIN: sets the operand lengths and the pel; ThreeD if b6 of its word is set
 abbrev pub domain_rule : Work → List ℕ → Result RuleResult DrawFault
-domain_rule work [] = Err faults.Missing
+domain_rule work [] = Err DrawFault.Missing
 domain_rule work (word ∷ words) =
-    if word / 32 == 1 then Err faults.ThreeD else
+    if word / 32 == 1 then Err DrawFault.ThreeD else
     Ok (rule_result (with_domain work (domain_in word) words) [])
 
 -- the result for the operands of a run, or Missing if there are none
@@ -129,8 +105,8 @@ from_pen work run f = with_operands work run (λ ms. and_then (pen_point work.st
 
 -- the list, or Missing if it is empty or its length is odd
 abbrev pub complete_pairs : {A : Type 0} → List A → Result (List A) DrawFault
-complete_pairs [] = Err faults.Missing
-complete_pairs (x ∷ xs) = if length xs % 2 == 1 then Ok (x ∷ xs) else Err faults.Missing
+complete_pairs [] = Err DrawFault.Missing
+complete_pairs (x ∷ xs) = if length xs % 2 == 1 then Ok (x ∷ xs) else Err DrawFault.Missing
 
 -- the result for the pairs of operands of a run, or Missing
 abbrev pub with_pairs : Work → List ℕ → (List Displacement → Result RuleResult DrawFault) → Result RuleResult DrawFault
@@ -138,13 +114,13 @@ with_pairs work run f = and_then (complete_pairs (moves_of work run)) f
 
 -- the first operand and the others, or Missing if there are fewer than two
 abbrev pub first_and_more : {A : Type 0} → List A → Result (A × List A) DrawFault
-first_and_more [] = Err faults.Missing
-first_and_more (x ∷ []) = Err faults.Missing
+first_and_more [] = Err DrawFault.Missing
+first_and_more (x ∷ []) = Err DrawFault.Missing
 first_and_more (x ∷ y ∷ ys) = Ok (x, y ∷ ys)
 
 -- the displacements, or ManyPoints if a shape may not have as many
 abbrev pub at_most_limit : List Displacement → Result (List Displacement) DrawFault
-at_most_limit ms = if nat_lt steps_limit (length ms) then Err faults.ManyPoints else Ok ms
+at_most_limit ms = if nat_lt steps_limit (length ms) then Err DrawFault.ManyPoints else Ok ms
 
 -- the result of a shape from the pen
 abbrev pub shape_from_pen : Work → List ℕ → (Drawing → List Coordinates → Entry) → (Coordinates → List Displacement → Option (List Coordinates)) → Result RuleResult DrawFault
@@ -158,11 +134,11 @@ shape_from_point work run entry points =
 
 -- the part of the unit screen from a point by a displacement, or Outside
 abbrev pub area_part : Option Coordinates → Displacement → Result Area DrawFault
-area_part p m = ok_or (option_map (λ s. areas.Part s.from s.to) (span_by p m)) faults.Outside
+area_part p m = ok_or (option_map (λ s. Area.Part s.from s.to) (span_by p m)) DrawFault.Outside
 
 -- the field: the whole unit screen, or a part from the pen, or a part from a point
 abbrev pub area_of : Work → List Displacement → Result Area DrawFault
-area_of work [] = Ok areas.Whole
+area_of work [] = Ok Area.Whole
 area_of work (m ∷ []) = and_then (pen_point work.state.drawing.pen) (λ p. area_part (Some p) m)
 area_of work (m ∷ n ∷ ms) = area_part (point_at m) n
 
@@ -174,7 +150,7 @@ field_rule work ms = and_then (area_of work ms) (λ area. entry_result work fiel
 -- macros
 abbrev pub reset_rule : Work → ℕ → ℕ → Result RuleResult DrawFault
 reset_rule work first second =
-    let entry = entries.Reset first second work.state.drawing.pen in
+    let entry = Entry.Reset first second work.state.drawing.pen in
     Ok (record {
       entries = entry ∷ [];
       work = record work { domain = if first % 2 == 1 then start_domain else work.domain; state = walk work.state (entry ∷ []) };
@@ -193,7 +169,7 @@ text_rule work run =
       text = record look {
         first = unwrap_or (slice_get run 0) look.first;
         second = unwrap_or (slice_get run 1) look.second;
-        size = unwrap_or (option_map sizes.Given (first_move work (drop 2 run))) look.size;
+        size = unwrap_or (option_map CharSize.Given (first_move work (drop 2 run))) look.size;
       };
     })) [])
 
@@ -210,14 +186,14 @@ texture_rule work run =
 
 -- the colour of mode 0
 abbrev pub colour_of_base : Base → Colour
-colour_of_base (bases.Own origin) = colours.Own origin
-colour_of_base (bases.Direct grb) = colours.Direct grb
+colour_of_base (Base.Own origin) = Colour.Own origin
+colour_of_base (Base.Direct grb) = Colour.Direct grb
 
 -- SELECT COLOR: the colour of mode 0, or the foreground at an address, or foreground and background at two
 abbrev pub selected_colour : Base → List ℕ → Colour
 selected_colour base [] = colour_of_base base
-selected_colour base (a ∷ []) = colours.Front a
-selected_colour base (a ∷ b ∷ more) = colours.Pair a b
+selected_colour base (a ∷ []) = Colour.Front a
+selected_colour base (a ∷ b ∷ more) = Colour.Pair a b
 
 abbrev pub select_rule : Work → List ℕ → Result RuleResult DrawFault
 select_rule work run = Ok (rule_result (with_drawing work (with_colour (selected_colour work.state.drawing.base (addresses work.domain.single run)) work.state.drawing)) [])
@@ -230,30 +206,30 @@ with_map_colour s a grb = record s { last = None; known = with_known_colour a gr
 abbrev pub map_rule : Work → ℕ → Components → Result RuleResult DrawFault
 map_rule work a grb =
     if is_known a grb work.state.known then Ok (rule_result work []) else
-    Ok (record { entries = entries.Map a grb ∷ []; work = record work { state = with_map_colour work.state a grb }; clears = false })
+    Ok (record { entries = Entry.Map a grb ∷ []; work = record work { state = with_map_colour work.state a grb }; clears = false })
 
 -- the result of SET COLOR, by the colour in use: a new colour of mode 0, or of the foreground's address, or NoAddress
 abbrev pub set_color_under : Work → Colour → Components → Result RuleResult DrawFault
-set_color_under work (colours.Own origin) grb = Ok (rule_result (with_drawing work (record work.state.drawing { base = bases.Direct grb; colour = colours.Direct grb })) [])
-set_color_under work (colours.Direct old) grb = Ok (rule_result (with_drawing work (record work.state.drawing { base = bases.Direct grb; colour = colours.Direct grb })) [])
-set_color_under work (colours.Front a) grb = map_rule work a grb
-set_color_under work (colours.Pair a b) grb = map_rule work a grb
-set_color_under work (colours.ByReset preset) grb = Err faults.NoAddress
+set_color_under work (Colour.Own origin) grb = Ok (rule_result (with_drawing work (record work.state.drawing { base = Base.Direct grb; colour = Colour.Direct grb })) [])
+set_color_under work (Colour.Direct old) grb = Ok (rule_result (with_drawing work (record work.state.drawing { base = Base.Direct grb; colour = Colour.Direct grb })) [])
+set_color_under work (Colour.Front a) grb = map_rule work a grb
+set_color_under work (Colour.Pair a b) grb = map_rule work a grb
+set_color_under work (Colour.ByReset preset) grb = Err DrawFault.NoAddress
 
 -- SET COLOR: exactly one colour; Missing without one, ManyColours with more
 abbrev pub set_color_rule : Work → List (List ℕ) → Result RuleResult DrawFault
-set_color_rule work [] = Err faults.Missing
+set_color_rule work [] = Err DrawFault.Missing
 set_color_rule work (operand ∷ []) = set_color_under work work.state.drawing.colour (colour_of operand)
-set_color_rule work (operand ∷ other ∷ more) = Err faults.ManyColours
+set_color_rule work (operand ∷ other ∷ more) = Err DrawFault.ManyColours
 
 -- the Blink of a group of operands: an address of k words, then the words on, off and delay; missing words are zero
 abbrev pub blink : ℕ → Colour → List ℕ → Entry
 blink k colour group =
-    entries.Blink (single_of (take k group)) (slice_index (drop k group) 0) (slice_index (drop k group) 1) (slice_index (drop k group) 2) colour
+    Entry.Blink (single_of (take k group)) (slice_index (drop k group) 0) (slice_index (drop k group) 1) (slice_index (drop k group) 2) colour
 
 -- BLINK: a Blink for each group, or BlinkEnd without any
 abbrev pub blinks : ℕ → Colour → List (List ℕ) → List Entry
-blinks k colour [] = entries.BlinkEnd colour ∷ []
+blinks k colour [] = Entry.BlinkEnd colour ∷ []
 blinks k colour (group ∷ groups) = map (blink k colour) (group ∷ groups)
 
 abbrev pub blink_rule : Work → List ℕ → Result RuleResult DrawFault
@@ -263,40 +239,40 @@ blink_rule work run =
 
 -- the opcode is in the profile: it isn't an incremental one
 abbrev pub IsDrawn : Opcode → Type 0
-IsDrawn opcodes.IncrementalPoint = ⊥
-IsDrawn opcodes.IncrementalLine = ⊥
-IsDrawn opcodes.IncrementalPolyFilled = ⊥
+IsDrawn Opcode.IncrementalPoint = ⊥
+IsDrawn Opcode.IncrementalLine = ⊥
+IsDrawn Opcode.IncrementalPolyFilled = ⊥
 IsDrawn _ = ⊤
 
 -- the rule of each opcode on its complete run (PROFILE.md, Opcodes); one that is left out gives nothing
 abbrev pub rule : Work → Opcode → List ℕ → Result RuleResult DrawFault
-rule work opcodes.Reset run = reset_rule work (slice_index run 0) (slice_index run 1)
-rule work opcodes.Domain run = domain_rule work run
-rule work opcodes.Text run = text_rule work run
-rule work opcodes.Texture run = texture_rule work run
-rule work opcodes.PointSetAbs run = with_operands work run (λ ms. pen_result work (points_at ms))
-rule work opcodes.PointSetRel run = from_pen work run (λ p ms. pen_result work (points_reached p ms))
-rule work opcodes.PointAbs run = with_operands work run (λ ms. entries_result work point_entry (points_at ms))
-rule work opcodes.PointRel run = from_pen work run (λ p ms. entries_result work point_entry (points_reached p ms))
-rule work opcodes.LineAbs run = from_pen work run (λ p ms. entries_result work span_line_entry (option_map (polyline_spans p) (points_at ms)))
-rule work opcodes.LineRel run = from_pen work run (λ p ms. entries_result work span_line_entry (option_map (polyline_spans p) (points_reached p ms)))
-rule work opcodes.SetLineAbs run = with_pairs work run (λ ms. entries_result work span_line_entry (absolute_spans ms))
-rule work opcodes.SetLineRel run = with_pairs work run (λ ms. entries_result work span_line_entry (relative_spans ms))
-rule work opcodes.ArcOutlined run = shape_from_pen work run (arc_on false) arc_points
-rule work opcodes.ArcFilled run = shape_from_pen work run (arc_on true) arc_points
-rule work opcodes.SetArcOutlined run = shape_from_point work run (arc_on false) arc_points
-rule work opcodes.SetArcFilled run = shape_from_point work run (arc_on true) arc_points
-rule work opcodes.RectOutlined run = from_pen work run (λ p ms. entries_result work (rect_on false) (rect_chain_spans p ms))
-rule work opcodes.RectFilled run = from_pen work run (λ p ms. entries_result work (rect_on true) (rect_chain_spans p ms))
-rule work opcodes.SetRectOutlined run = with_pairs work run (λ ms. entries_result work (rect_on false) (relative_spans ms))
-rule work opcodes.SetRectFilled run = with_pairs work run (λ ms. entries_result work (rect_on true) (relative_spans ms))
-rule work opcodes.PolyOutlined run = shape_from_pen work run (poly_on false) poly_points
-rule work opcodes.PolyFilled run = shape_from_pen work run (poly_on true) poly_points
-rule work opcodes.SetPolyOutlined run = shape_from_point work run (poly_on false) poly_points
-rule work opcodes.SetPolyFilled run = shape_from_point work run (poly_on true) poly_points
-rule work opcodes.Field run = field_rule work (moves_of work run)
-rule work opcodes.SetColor run = set_color_rule work (operands work.domain.multi run)
-rule work opcodes.Wait run = Ok (rule_result work (map entries.Wait run))
-rule work opcodes.SelectColor run = select_rule work run
-rule work opcodes.Blink run = blink_rule work run
+rule work Opcode.Reset run = reset_rule work (slice_index run 0) (slice_index run 1)
+rule work Opcode.Domain run = domain_rule work run
+rule work Opcode.Text run = text_rule work run
+rule work Opcode.Texture run = texture_rule work run
+rule work Opcode.PointSetAbs run = with_operands work run (λ ms. pen_result work (points_at ms))
+rule work Opcode.PointSetRel run = from_pen work run (λ p ms. pen_result work (points_reached p ms))
+rule work Opcode.PointAbs run = with_operands work run (λ ms. entries_result work point_entry (points_at ms))
+rule work Opcode.PointRel run = from_pen work run (λ p ms. entries_result work point_entry (points_reached p ms))
+rule work Opcode.LineAbs run = from_pen work run (λ p ms. entries_result work span_line_entry (option_map (polyline_spans p) (points_at ms)))
+rule work Opcode.LineRel run = from_pen work run (λ p ms. entries_result work span_line_entry (option_map (polyline_spans p) (points_reached p ms)))
+rule work Opcode.SetLineAbs run = with_pairs work run (λ ms. entries_result work span_line_entry (absolute_spans ms))
+rule work Opcode.SetLineRel run = with_pairs work run (λ ms. entries_result work span_line_entry (relative_spans ms))
+rule work Opcode.ArcOutlined run = shape_from_pen work run (arc_on false) arc_points
+rule work Opcode.ArcFilled run = shape_from_pen work run (arc_on true) arc_points
+rule work Opcode.SetArcOutlined run = shape_from_point work run (arc_on false) arc_points
+rule work Opcode.SetArcFilled run = shape_from_point work run (arc_on true) arc_points
+rule work Opcode.RectOutlined run = from_pen work run (λ p ms. entries_result work (rect_on false) (rect_chain_spans p ms))
+rule work Opcode.RectFilled run = from_pen work run (λ p ms. entries_result work (rect_on true) (rect_chain_spans p ms))
+rule work Opcode.SetRectOutlined run = with_pairs work run (λ ms. entries_result work (rect_on false) (relative_spans ms))
+rule work Opcode.SetRectFilled run = with_pairs work run (λ ms. entries_result work (rect_on true) (relative_spans ms))
+rule work Opcode.PolyOutlined run = shape_from_pen work run (poly_on false) poly_points
+rule work Opcode.PolyFilled run = shape_from_pen work run (poly_on true) poly_points
+rule work Opcode.SetPolyOutlined run = shape_from_point work run (poly_on false) poly_points
+rule work Opcode.SetPolyFilled run = shape_from_point work run (poly_on true) poly_points
+rule work Opcode.Field run = field_rule work (moves_of work run)
+rule work Opcode.SetColor run = set_color_rule work (operands work.domain.multi run)
+rule work Opcode.Wait run = Ok (rule_result work (map Entry.Wait run))
+rule work Opcode.SelectColor run = select_rule work run
+rule work Opcode.Blink run = blink_rule work run
 rule work _ run = Ok (rule_result work [])

@@ -1,18 +1,17 @@
 //! Points that a sink only counts, so that none has to be made (PROFILE.md, Opcodes).
-ghost use Rattle.std.specs.Prelude.{◌≡◌, ◌≤◌, ◌/◌, true, false, take, drop, length, IfSome, IsTrue};
-ghost use Rattle.nap_values.specs.Coordinates.{displaced_point};
-ghost use Rattle.nap_values.specs.Operands.{operand_words, multi_of};
-ghost use Rattle.nap_list.specs.Agreement.{StatesAgree};
-ghost use Rattle.nap_list.specs.Batches.{point_entry};
+ghost use Rattle.std.specs.Prelude.{IfSome, IsTrue, Ok, Some, drop, false, length, take, true, ◌/◌, ◌<◌, ◌≡◌, ◌≤◌};
+ghost use Rattle.nap_draw.specs.Names.{StatesAgree, displaced_point, multi_of, operand_words, point_entry};
 ghost use Rattle.nap_draw.specs.Operands.{moves};
 ghost use Rattle.std.specs.Option.{option_map};
-ghost use Rattle.nap_draw.specs.Geometry.{points_reached, polyline_spans};
-ghost use Rattle.nap_draw.specs.Rule.{entries_result, span_line_entry};
+ghost use Rattle.nap_draw.specs.Geometry.{points_at, points_reached, polyline_spans};
+ghost use Rattle.nap_draw.specs.Rule.{entries_result, rule_result, span_line_entry};
+ghost use Rattle.nap_draw.specs.Codes.{repeated_chars};
 ghost use Rattle.nap_draw.specs.Counted.{ActsFully, Arrives, Displaces};
 
+use crate::operands::operand_count;
 use crate::work::Work;
-use nap_list::{Entry, Sink};
-use nap_values::{CoarseWalk, Domain, Point};
+use nap_list::{Entry, LastChar, Pen, Sink};
+use nap_values::{CoarseWalk, Domain, Point, begins_inside, multi_bytes};
 
 impl Work {
     /// Draws a point at each point that the displacements lead to, one after another, if the sink needs only their
@@ -42,6 +41,64 @@ impl Work {
         true
     }
 
+    /// Draws a point at each operand, if the sink needs only their number and all are on the unit screen. Else returns
+    /// false, and changes nothing.
+    #[inline(always)]
+    pub(crate) fn count_points_at<S: Sink>(&mut self, run: &[u8], sink: &mut S) -> bool
+        requires { StatesAgree self.old.state (S.state sink.old) }
+        ensures counted { result ≡ true → ActsFully S.Sink (entries_result self.old point_entry (points_at (moves self.old.domain.multi (operand_words run.now)))) self.old self.new sink.old sink.new }
+        ensures kept { result ≡ false → (self.new ≡ self.old) × (sink.new ≡ sink.old) }
+    {
+        if !sink.counts_only() {
+            return false;
+        }
+        let Some(at) = last_of_points(self.domain, run) else {
+            return false;
+        };
+        let drawing = &self.state.drawing;
+        let last = Entry::Point {
+            at,
+            pel: drawing.pel,
+            colour: drawing.colour,
+        };
+        if !sink.put_alike(operand_count(self.domain, run), &last) {
+            return false;
+        }
+        self.move_pen_to(Some(at));
+        true
+    }
+
+    /// Puts the last character again a number of times, if the sink needs only that. Else returns false, and changes
+    /// nothing.
+    #[inline(always)]
+    pub(crate) fn count_copies<S: Sink>(
+        &mut self,
+        last: LastChar,
+        count: usize,
+        sink: &mut S,
+    ) -> bool
+        requires agrees { StatesAgree self.old.state (S.state sink.old) }
+        requires last { self.old.state.last ≡ Some last }
+        requires some { 0 < count }
+        ensures counted { result ≡ true → ActsFully S.Sink (Ok (rule_result self.old (repeated_chars self.old.state last count))) self.old self.new sink.old sink.new }
+        ensures kept { result ≡ false → (self.new ≡ self.old) × (sink.new ≡ sink.old) }
+    {
+        if !sink.counts_only() {
+            return false;
+        }
+        let hand = self.hand();
+        let entry = Entry::Char {
+            set: last.set,
+            code: last.code,
+            hand,
+        };
+        if !sink.put_alike(count, &entry) {
+            return false;
+        }
+        self.state.drawing.pen = Pen::After;
+        true
+    }
+
     /// Draws lines through the points that the displacements lead to, one after another, if the sink needs only their
     /// number and all are on the unit screen. Else returns false, and changes nothing.
     #[inline(always)]
@@ -67,6 +124,24 @@ impl Work {
         self.move_pen_to(Some(to));
         true
     }
+}
+
+/// Returns the last of the points that the operands spell, if there are any and all are on the unit screen.
+#[inline(always)]
+fn last_of_points(domain: Domain, run: &[u8]) -> Option<Point>
+    ensures { IfSome result (λ at. Arrives (points_at (moves domain.multi (operand_words run.now))) (length (moves domain.multi (operand_words run.now))) at) }
+{
+    let size = usize::from(domain.multi());
+    let mut inside = true;
+    let mut last: &[u8] = &[];
+    for operand in run.chunks(size) {
+        inside &= begins_inside(operand[0]);
+        last = operand;
+    }
+    if last.is_empty() || !inside {
+        return None;
+    }
+    multi_bytes(last).point()
 }
 
 /// Returns the last point that the displacements lead to, one after another, if each has three words and all points are

@@ -1,12 +1,11 @@
 //! FIELD: the whole unit screen, or a part of it (PROFILE.md, Opcodes).
 ghost use Rattle.std.specs.Prelude.{◌≡◌};
-ghost use Rattle.nap_values.specs.Operands.{operand_words};
-ghost use Rattle.nap_list.specs.Agreement.{StatesAgree};
+ghost use Rattle.nap_draw.specs.Names.{StatesAgree, operand_words};
 ghost use Rattle.nap_draw.specs.Rule.{moves_of, area_part, area_of, rule};
 ghost use Rattle.nap_draw.specs.Execution.{ActsByRule, clears_nothing};
 
 use crate::fault::DrawFault;
-use crate::spans::{Span, span_by};
+use crate::figures::{Span, span_by};
 use crate::work::Work;
 use nap_codes::Opcode;
 use nap_list::{Area, Entry, Pen, Sink};

@@ -1,7 +1,6 @@
 //! Operands of a run, and the checks that come before its points (PROFILE.md, Operands).
-ghost use Rattle.std.specs.Prelude.{◌≡◌, ◌%◌, length, List, Result, Err, IfOk, IfErr, OnOk, slice_index, drop, slice_get, unwrap_or};
-ghost use Rattle.nap_values.specs.Operands.{operand_words};
-ghost use Rattle.nap_values.specs.Coordinates.{Coordinates, Displacement};
+ghost use Rattle.std.specs.Prelude.{Err, IfErr, IfOk, List, OnOk, Result, drop, length, slice_get, slice_index, unwrap_or, ◌%◌, ◌≡◌};
+ghost use Rattle.nap_draw.specs.Names.{Coordinates, Displacement, operand_words};
 ghost use Rattle.nap_draw.specs.declared.fault.DrawFault.{DrawFault};
 ghost use Rattle.nap_draw.specs.Operands.{moves};
 ghost use Rattle.nap_draw.specs.Rule.{RuleResult, moves_of, with_operands, with_pairs, from_pen};

@@ -1,19 +1,17 @@
 //! The opcodes of points, lines and rectangles, and how a sink takes what they draw (PROFILE.md, Opcodes).
-ghost use Rattle.std.specs.Prelude.{◌<◌, ◌≤◌, length, vec_capacity, if◌then◌else◌, Some};
-ghost use Rattle.nap_values.specs.Operands.{operand_words};
-ghost use Rattle.nap_list.specs.Agreement.{StatesAgree};
+ghost use Rattle.std.specs.Prelude.{Some, if◌then◌else◌, length, vec_capacity, ◌<◌, ◌≤◌};
+ghost use Rattle.nap_draw.specs.Names.{StatesAgree, operand_words, point_entry};
 ghost use Rattle.nap_draw.specs.Rule.{rule, entries_result, with_pairs, span_line_entry};
 ghost use Rattle.nap_draw.specs.Execution.{ActsByRule, SetsWork, clears_nothing, figure_entry, chain_spans, pair_spans};
-ghost use Rattle.nap_draw.specs.Geometry.{relative_spans, polyline_spans, points_reached};
-ghost use Rattle.nap_list.specs.Batches.{point_entry};
+ghost use Rattle.nap_draw.specs.Geometry.{relative_spans, polyline_spans, points_at, points_reached};
 ghost use Rattle.std.specs.Option.{option_map};
 ghost use Rattle.nap_draw.specs.Operands.{moves};
 
 use crate::fault::DrawFault;
+use crate::figures::Figure;
 use crate::operands::{require_operand, require_pairs, require_start};
 use crate::putting::{put_chain, put_pairs};
 use crate::scratch::{corners_into, pairs_into, points_into, steps_into};
-use crate::spans::Figure;
 use crate::work::Work;
 use nap_codes::Opcode;
 use nap_list::{Batch, Pen, Sink};
@@ -77,8 +75,10 @@ impl Work {
         ensures space { vec_capacity scratch.old ≤ vec_capacity scratch.new }
     {
         require_operand(self, run)?;
-        points_into(scratch, self.domain, run)?;
-        self.draw_points(scratch, sink)
+        if self.count_points_at(run, sink) {
+            return Ok(());
+        }
+        self.draw_points_at(scratch, run, sink)
     }
 
     pub(crate) fn point_rel<S: Sink>(
@@ -248,6 +248,21 @@ impl Work {
         let last = put_pairs(figure, points, &self.state.drawing, sink)?;
         self.move_pen_to(figure.end(last));
         Ok(())
+    }
+
+    /// Draws a point at each operand.
+    pub(crate) fn draw_points_at<S: Sink>(
+        &mut self,
+        scratch: &mut Vec<Point>,
+        run: &[u8],
+        sink: &mut S,
+    ) -> Result<(), DrawFault>
+        requires { StatesAgree self.old.state (S.state sink.old) }
+        ensures acts { ActsByRule S.Sink clears_nothing (vec_capacity scratch.old < length run.now) (entries_result self.old point_entry (points_at (moves self.old.domain.multi (operand_words run.now)))) self.old self.new sink.old sink.new result }
+        ensures space { vec_capacity scratch.old ≤ vec_capacity scratch.new }
+    {
+        points_into(scratch, self.domain, run)?;
+        self.draw_points(scratch, sink)
     }
 
     /// Draws a point at each point that the displacements lead to, one after another.

@@ -1,15 +1,14 @@
 //! Putting of the entries of an opcode one after another, up to the first that the sink doesn't take.
-ghost use Rattle.std.specs.Prelude.{◌≡◌, ◌+◌, ◌<◌, None, map, length, IfOk};
-ghost use Rattle.nap_values.specs.Operands.{operand_words};
-ghost use Rattle.nap_list.specs.State.{AllFit};
+ghost use Rattle.std.specs.Prelude.{IfOk, None, length, map, ◌+◌, ◌<◌, ◌≡◌};
+ghost use Rattle.nap_draw.specs.Names.{AllFit, operand_words};
 ghost use Rattle.nap_list.specs.declared.entry.Entry.TheVariants.{Wait};
 ghost use Rattle.nap_draw.specs.Operands.{operands};
 ghost use Rattle.nap_draw.specs.Geometry.{last_or};
 ghost use Rattle.nap_draw.specs.Rule.{blink};
 ghost use Rattle.nap_draw.specs.Execution.{PutsList, chain_spans, pair_spans, figure_entry};
 
+use crate::figures::{Figure, Span};
 use crate::operands::word_at;
-use crate::spans::{Figure, Span};
 use nap_list::{Drawing, Entry, Sink, SinkFault};
 use nap_values::{Domain, Point, Word, single_bytes};
 

@@ -1,6 +1,5 @@
 //! WAIT and BLINK.
-ghost use Rattle.nap_values.specs.Operands.{operand_words};
-ghost use Rattle.nap_list.specs.Agreement.{StatesAgree};
+ghost use Rattle.nap_draw.specs.Names.{StatesAgree, operand_words};
 ghost use Rattle.nap_draw.specs.Rule.{rule};
 ghost use Rattle.nap_draw.specs.Execution.{ActsByRule, clears_nothing};
 

@@ -1,16 +1,14 @@
 //! The working state of codes, the effects of an opcode, and its execution (PROFILE.md, Opcodes).
-ghost use Rattle.std.specs.Prelude.{◌≡◌, [], ◌∷◌, Ok, unwrap_or, ◌≤◌, ◌≢◌, ◌⊎◌, length, true, false, OnOk, IfErr, IsErrOf, ◌<◌, vec_capacity};
-ghost use Rattle.nap_list.specs.State.{after, hand_of};
-ghost use Rattle.nap_list.specs.Agreement.{StatesAgree};
+ghost use Rattle.std.specs.Prelude.{IfErr, IsErrOf, Ok, OnOk, [], false, length, true, unwrap_or, vec_capacity, ◌<◌, ◌∷◌, ◌≡◌, ◌≢◌, ◌≤◌, ◌⊎◌};
+ghost use Rattle.nap_draw.specs.Names.{StatesAgree, after, hand_of, operand_words};
 ghost use Rattle.nap_draw.specs.Rule.{start_work, pen_point, with_drawing, rule_result, rule, IsDrawn};
 ghost use Rattle.nap_draw.specs.Execution.{MayFollow, AppliesControl, PutsList, with_pen_moved_to, with_pen_moved, ActsByRule, clears_nothing};
-ghost use Rattle.nap_values.specs.Operands.{operand_words};
 ghost use Rattle.nap_draw.specs.Limits.{run_limit};
 ghost use Rattle.nap_draw.specs.Acts.{Acts, WantsFor, clears_macros};
 
 use crate::fault::DrawFault;
-use crate::shapes::ShapeStart::{AtOperand, AtPen};
-use crate::spans::Figure;
+use crate::figures::Figure;
+use crate::figures::ShapeStart::{AtOperand, AtPen};
 use nap_codes::Opcode;
 use nap_list::ShapeKind::{Arc, Poly};
 use nap_list::{Base, Colour, Entry, Hand, Pen, Sink, SinkFault, State, TextLook, Texture};

@@ -1,8 +1,5 @@
 use Rattle.nap_lines.proofs.Common.{Batch, Bool, CharSet, Coordinates, Drawing, Entry, Err, Hand, Ink, IsUtf8, LineSinkState, LinesContinue, List, NeedsLines, NeedsUpTo, None, Ok, OnErr, OnOk, Option, Pen, Result, SinkModel, Some, TakesLinesOf, TextStep, Vec, [], add-one, ap, append-nil, append_assoc, arith, batch_entries, char_front, codes, colour_text, drop, drop-append_seam, false, flat_map, flat_map-append, format_effector, format_effector_front, get_or, hand_of, hand_text, hand_text_without_pen, if◌then◌else◌, ink_of, ink_text, is_err, is_ok, last_point, length, length-append, length-drop, length-take, length-take-le, line, line_front, line_limit, lines, lines_prefix, lines_rest, lines_with, look_text, map, move_front, move_text, mul-le-mul_left, pen_at, pen_text, point_end, point_entry, point_front, points_prefix, points_rest, polyline_entries, refl, rules, set_text, sink_model, subst, suc, sym, take, take-append_seam, take-take, take_more, text_byte_front, text_byte_front_as, text_entries_in, text_entry, text_entry_as, text_prefix, true, vec_capacity, vec_len, zero, ℕ, ◌*◌, ◌++◌, ◌+◌, ◌-◌, ◌<◌, ◌∙◌, ◌∷◌, ◌≡◌, ◌≤◌}
-use Rattle.nap_codes.specs.declared.code_set.CharSet.TheVariants as sets
 use Rattle.nap_list.specs.declared.attribute.Pen.TheVariants.{After}
-use Rattle.nap_list.specs.declared.entry.Entry.TheVariants as entries
-use Rattle.nap_list.specs.declared.batch.Batch.TheVariants as batches
 
 -- The lines of a batch.
 
@@ -25,10 +22,10 @@ abbrev pub char_start : CharSet → List ℕ
 char_start set = codes "CHAR " ++ set_text set ++ codes " "
 
 pub start_utf8 : (set : CharSet) → IsUtf8 (char_start set)
-start_utf8 sets.Primary = search rules
-start_utf8 sets.Supplementary = search rules
-start_utf8 sets.Mosaic = search rules
-start_utf8 sets.Drcs = search rules
+start_utf8 CharSet.Primary = search rules
+start_utf8 CharSet.Supplementary = search rules
+start_utf8 CharSet.Mosaic = search rules
+start_utf8 CharSet.Drcs = search rules
 
 -- one more line was written
 
@@ -117,7 +114,7 @@ dot_line d at = parts (point_front at) (codes " pel=") (move_text d.pel) (codes 
     parts : (f a m b c n : List ℕ) → f ++ (a ++ m ++ b ++ c ++ n) ≡ f ++ a ++ m ++ b ++ c ++ n
     parts f a m b c n = simp append_assoc
 
-line_line : (ink : Ink) (from to : Coordinates) → line_front from to ++ (codes " " ++ ink_text ink ++ 10 ∷ []) ≡ line (entries.Line from to ink) ++ 10 ∷ []
+line_line : (ink : Ink) (from to : Coordinates) → line_front from to ++ (codes " " ++ ink_text ink ++ 10 ∷ []) ≡ line (Entry.Line from to ink) ++ 10 ∷ []
 line_line ink from to = parts (line_front from to) (codes " ") (ink_text ink) (10 ∷ [])
   where
     parts : (f a i n : List ℕ) → f ++ (a ++ i ++ n) ≡ f ++ a ++ i ++ n
@@ -161,7 +158,7 @@ lines_are_lines d from [] = refl
 lines_are_lines d from (p ∷ ps) =
     let end : List ℕ = codes " " ++ ink_text (ink_of d) ++ 10 ∷ [] in
     ap (λ (bytes : List ℕ). bytes ++ lines_with end p ps) (line_line (ink_of d) from p)
-    ∙ ap (λ (bytes : List ℕ). (line (entries.Line from p (ink_of d)) ++ 10 ∷ []) ++ bytes) (lines_are_lines d p ps)
+    ∙ ap (λ (bytes : List ℕ). (line (Entry.Line from p (ink_of d)) ++ 10 ∷ []) ++ bytes) (lines_are_lines d p ps)
 
 pub letters_are_lines : (set : CharSet) (hand : Hand) (cs : List ℕ) →
     flat_map (λ code. text_byte_front set code ++ (codes " pen=after" ++ (hand_text_without_pen hand ++ 10 ∷ []))) cs ≡ lines (text_entries_in set (record hand { pen = After }) cs)
@@ -181,7 +178,7 @@ few_of few xs m n is less = omega (arith, ap length is, length-take m xs, less)
 
 -- the written lines of a batch are those of its entries from an index on
 
-pub points_written : (b : Batch) (points : _) (d : _) (first m n : ℕ) (old new buffer : List ℕ) (few : List Coordinates) → b ≡ batches.Points points d → n ≤ m →
+pub points_written : (b : Batch) (points : _) (d : _) (first m n : ℕ) (old new buffer : List ℕ) (few : List Coordinates) → b ≡ Batch.Points points d → n ≤ m →
     buffer ≡ point_end d.now.pel d.now.colour ++ 10 ∷ [] → few ≡ take m (drop first points.now) →
     new ≡ old ++ flat_map (λ at. point_front at ++ buffer) (take n few) → new ≡ old ++ lines (take n (drop first (batch_entries b)))
 points_written b points d first m n old new buffer few is less end slice text =
@@ -194,7 +191,7 @@ points_written b points d first m n old new buffer few is less end slice text =
     ∙ ap (λ (list : List Entry). old ++ lines (take n list)) (points_rest d.now points.now first) in
     rw is bytes
 
-pub lines_written : (b : Batch) (from : _) (points : _) (d : _) (first m n : ℕ) (start : Coordinates) (old new buffer : List ℕ) (few : List Coordinates) → b ≡ batches.Lines from points d → n ≤ m →
+pub lines_written : (b : Batch) (from : _) (points : _) (d : _) (first m n : ℕ) (start : Coordinates) (old new buffer : List ℕ) (few : List Coordinates) → b ≡ Batch.Lines from points d → n ≤ m →
     buffer ≡ codes " " ++ ink_text (ink_of d.now) ++ 10 ∷ [] → start ≡ last_point from (take first points.now) → few ≡ take m (drop first points.now) →
     new ≡ old ++ lines_with buffer start (take n few) → new ≡ old ++ lines (take n (drop first (batch_entries b)))
 lines_written b from points d first m n start old new buffer few is less end begins slice text =
@@ -221,7 +218,7 @@ text_from_index set hand codes zero = refl
 text_from_index set hand [] (suc n) = refl
 text_from_index set hand (c ∷ cs) (suc n) = text_rest set hand cs n
 
-pub part_written : (b : Batch) (set : CharSet) (bytes : _) (pen : Pen) (d : _) (first m n : ℕ) (hand : Hand) (old new few : List ℕ) → b ≡ batches.Text set bytes pen d → n ≤ m →
+pub part_written : (b : Batch) (set : CharSet) (bytes : _) (pen : Pen) (d : _) (first m n : ℕ) (hand : Hand) (old new few : List ℕ) → b ≡ Batch.Text set bytes pen d → n ≤ m →
     hand ≡ record (hand_of d.now) { pen = pen_at pen first } → few ≡ take m (drop first bytes.now) →
     new ≡ old ++ lines (take n (text_entries_in set hand few)) → new ≡ old ++ lines (take n (drop first (batch_entries b)))
 part_written b set bytes pen d first m n hand old new few is less in_hand slice text =

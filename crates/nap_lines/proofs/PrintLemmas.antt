@@ -1,6 +1,5 @@
-use Rattle.nap_lines.proofs.Common.{BatchFault, BreaksAfter, BrokeLines, Closes, DeviceFault, Entry, Err, FailsAfter, FaultMatchesDevice, HaltsAfter, IsErrAnd, List, Ok, OnOk, Printing, PrintsLines, PrintsUpTo, Put, PutSome, Result, Sending, SendsAll, SendsBuffered, SendsPart, SinkFault, SinkModel, State, TakesAll, TookLines, [], ap, append-nil, arith, drop, false, inl, inr, length, length-drop, length-take-le, line, line_memory, lines, lines_join, passes_more, passes_none, passes_on, refl, sending, sending_by, sink_model, stopped_grows, stops_after, subst, sym, take, take-add, take-append-drop, take_all, taken_count, took_none, true, walk, wanting_put, ℕ, ◌++◌, ◌+◌, ◌-◌, ◌<◌, ◌∙◌, ◌∷◌, ◌≡◌}
-use Rattle.nap_list.specs.declared.device.outlet.Outlet as outlet
-use Rattle.nap_list.specs.declared.sink.SinkFault.TheVariants as faults
+use Rattle.nap_lines.proofs.Common.{BatchFault, BreaksAfter, BrokeLines, Closes, DeviceFault, Entry, Err, FailsAfter, FaultMatchesDevice, HaltsAfter, IsErrAnd, List, Ok, OnOk, Printing, PrintsLines, PrintsUpTo, Put, PutSome, Result, Sending, SendsAll, SendsBuffered, SendsPart, SinkFault, SinkModel, State, TakesAll, TookLines, [], ap, append-nil, arith, drop, false, inl, inr, length, length-take-le, line, line_memory, lines, lines_join, passes_more, passes_none, passes_on, refl, sending, sending_by, sink_model, stopped_grows, stops_after, subst, sym, take, take-add, take-append-drop, take_all, taken_count, took_none, true, walk, wanting_put, ℕ, ◌++◌, ◌+◌, ◌<◌, ◌∙◌, ◌∷◌, ◌≡◌}
+use Rattle.nap_list.specs.declared.device.Outlet as outlet
 
 -- The buffered bytes are sent.
 
@@ -118,8 +117,8 @@ module _ {O : Type 0} (o : outlet.Ghosts O) where
 
     -- memory ran out, or a write failed, after the lines of n entries
     stopped : (n : ℕ) (fault : SinkFault) → PrintsUpTo o s d n t fault → n < length d → v ≡ walk s.state (take n d) → HaltsAfter printer_shows d s u n fault × FaultMatchesDevice printer_shows s u n fault
-    stopped n faults.Memory (passes, clear, few) less is = stops_after printer_shows s u d n less works clear (took_front n passes clear is) (λ x. few)
-    stopped n faults.Write ((left, passes), failed) less is = (
+    stopped n SinkFault.Memory (passes, clear, few) less is = stops_after printer_shows s u d n less works clear (took_front n passes clear is) (λ x. few)
+    stopped n SinkFault.Write ((left, passes), failed) less is = (
       inr (breaks n left less passes failed is (drop n d) (sym (take-append-drop n d))),
       record { write = λ _. failed; memory = λ e. (let bad : ⊥ = cc in absurd bad); none = λ set. not_failed set },
     )
@@ -170,20 +169,20 @@ module _ {O : Type 0} (o : outlet.Ghosts O) where
     none = λ set. (let bad : ⊥ = cc in absurd bad);
   }
 
-  pub shape_broken : (s u : Printing O) (e : Entry) → o.failed s.outlet ≡ false → BrokeLines o s [] e u → PutSome {A = Unit {0}} printer_shows (e ∷ []) s u (Err faults.Write)
+  pub shape_broken : (s u : Printing O) (e : Entry) → o.failed s.outlet ≡ false → BrokeLines o s [] e u → PutSome {A = Unit {0}} printer_shows (e ∷ []) s u (Err SinkFault.Write)
   shape_broken s u e works broke = (
     0,
     inr (record { prefix = []; next = e; rest = []; parts = refl; count = refl; broken = broke }),
     record { write = λ _. broke.failed; memory = λ is. (let bad : ⊥ = cc in absurd bad); none = λ set. (let bad : ⊥ = cc in absurd bad) },
   )
 
-  pub shape_refused : (s : Printing O) (now : List ℕ) (e : Entry) (r : Result (Unit {0}) SinkFault) → now ≡ s.buffered → IsErrAnd r (λ fault. fault ≡ faults.Memory) → o.failed s.outlet ≡ false →
+  pub shape_refused : (s : Printing O) (now : List ℕ) (e : Entry) (r : Result (Unit {0}) SinkFault) → now ≡ s.buffered → IsErrAnd r (λ fault. fault ≡ SinkFault.Memory) → o.failed s.outlet ≡ false →
       s.space < line_memory → PutSome printer_shows (e ∷ []) s (record s { buffered = now }) r
   shape_refused s now e r kept wants works few =
       let same : record s { buffered = now } ≡ s = ap (λ (buffered : List ℕ). record s { buffered = buffered }) kept in
       subst (λ (u : Printing O). PutSome printer_shows (e ∷ []) s u r) (sym same) (wanting_put printer_shows s e r wants (took_none o s) works few)
 
-  pub shape_failed : (s : Printing O) (list : List Entry) → o.failed s.outlet ≡ true → PutSome {A = Unit {0}} printer_shows list s s (Err faults.Write)
+  pub shape_failed : (s : Printing O) (list : List Entry) → o.failed s.outlet ≡ true → PutSome {A = Unit {0}} printer_shows list s s (Err SinkFault.Write)
   shape_failed s list set = (
     0,
     inl (set, refl, refl),

@@ -1,5 +1,4 @@
 use Rattle.nap_lines.proofs.Common.{Entry, IsErrAnd, LineSinkState, List, PutSome, Result, SinkFault, State, TakesAll, [], after, ap, line, lists_none, refl, subst, sym, walk, wanting_put, ℕ, ◌++◌, ◌∙◌, ◌∷◌, ◌≡◌}
-use Rattle.nap_list.specs.declared.sink.SinkFault.TheVariants as faults
 use Rattle.nap_lines.proofs.BatchLemmas.{lines_shows}
 use Rattle.nap_lines.proofs.PrintLemmas.{one_line}
 
@@ -23,7 +22,7 @@ shape_listed s old now v w e is text state =
     }
 
 pub shape_unlisted : (s : LineSinkState) (old now : List ℕ) (v : State) (e : Entry) (r : Result (Unit {0}) SinkFault) → record { text = old; state = v } ≡ s → now ≡ old →
-    IsErrAnd r (λ fault. fault ≡ faults.Memory) → PutSome lines_shows (e ∷ []) s (record { text = now; state = v }) r
+    IsErrAnd r (λ fault. fault ≡ SinkFault.Memory) → PutSome lines_shows (e ∷ []) s (record { text = now; state = v }) r
 shape_unlisted s old now v e r is kept wants =
     let same : record { text = now; state = v } ≡ s = ap (λ (text : List ℕ). record { text = text; state = v }) kept ∙ is in
     subst (λ (u : LineSinkState). PutSome lines_shows (e ∷ []) s u r) (sym same) (wanting_put lines_shows s e r wants (lists_none s) refl tt)

@@ -4,30 +4,21 @@ use Rattle.std.specs.Char.{digit_char}
 use Rattle.nap_values.specs.Coordinates.{Coordinates, Displacement}
 use Rattle.nap_values.specs.Colours.{Components}
 use Rattle.nap_codes.specs.declared.code_set.CharSet.{CharSet}
-use Rattle.nap_codes.specs.declared.code_set.CharSet.TheVariants as char_set
 use Rattle.nap_codes.specs.declared.control.CursorKind.{CursorKind}
-use Rattle.nap_codes.specs.declared.control.CursorKind.TheVariants as cursor
 use Rattle.nap_codes.specs.declared.control.Mask.{Mask}
-use Rattle.nap_codes.specs.declared.control.Mask.TheVariants as mask
-use Rattle.nap_codes.specs.declared.control.Size.TheVariants as size
+use Rattle.nap_codes.specs.declared.control.Size.{Size}
 use Rattle.nap_codes.specs.declared.control.TextStep.{TextStep}
-use Rattle.nap_codes.specs.declared.control.TextStep.TheVariants as step
 use Rattle.nap_list.specs.declared.attribute.Area.{Area}
-use Rattle.nap_list.specs.declared.attribute.Area.TheVariants as area
 use Rattle.nap_list.specs.declared.attribute.CharSize.{CharSize}
-use Rattle.nap_list.specs.declared.attribute.CharSize.TheVariants as char_size
 use Rattle.nap_list.specs.declared.attribute.Colour.{Colour}
-use Rattle.nap_list.specs.declared.attribute.Colour.TheVariants as colour
 use Rattle.nap_list.specs.declared.attribute.Hand.{Hand}
 use Rattle.nap_list.specs.declared.attribute.Ink.{Ink}
-use Rattle.nap_list.specs.declared.attribute.Origin.TheVariants as origin
+use Rattle.nap_list.specs.declared.attribute.Origin.{Origin}
 use Rattle.nap_list.specs.declared.attribute.Pen.{Pen}
-use Rattle.nap_list.specs.declared.attribute.Pen.TheVariants as pen
-use Rattle.nap_list.specs.declared.attribute.Preset.TheVariants as preset
+use Rattle.nap_list.specs.declared.attribute.Preset.{Preset}
 use Rattle.nap_list.specs.declared.attribute.TextLook.{TextLook}
 use Rattle.nap_list.specs.declared.attribute.Texture.{Texture}
 use Rattle.nap_list.specs.declared.entry.Entry.{Entry}
-use Rattle.nap_list.specs.declared.entry.Entry.TheVariants as entry
 
 -- The fields of a line (PROFILE.md, Lines of list).
 
@@ -50,18 +41,18 @@ abbrev pub code_text : ℕ → List ℕ
 code_text code = digit_char (code / 16) ∷ digit_char (code % 16) ∷ []
 
 abbrev pub colour_text : Colour → List ℕ
-colour_text (colour.Own origin.AtStart) = codes "own-start"
-colour_text (colour.Own origin.AfterReset) = codes "own-reset"
-colour_text (colour.Direct grb) = codes "direct:" ++ grb_text grb
-colour_text (colour.Front addr) = codes "front:" ++ decimal addr
-colour_text (colour.Pair front back) = codes "pair:" ++ decimal front ++ codes "," ++ decimal back
-colour_text (colour.ByReset preset.Two) = codes "reset-2"
-colour_text (colour.ByReset preset.Three) = codes "reset-3"
+colour_text (Colour.Own Origin.AtStart) = codes "own-start"
+colour_text (Colour.Own Origin.AfterReset) = codes "own-reset"
+colour_text (Colour.Direct grb) = codes "direct:" ++ grb_text grb
+colour_text (Colour.Front addr) = codes "front:" ++ decimal addr
+colour_text (Colour.Pair front back) = codes "pair:" ++ decimal front ++ codes "," ++ decimal back
+colour_text (Colour.ByReset Preset.Two) = codes "reset-2"
+colour_text (Colour.ByReset Preset.Three) = codes "reset-3"
 
 abbrev pub pen_text : Pen → List ℕ
-pen_text pen.Start = codes "start"
-pen_text (pen.At p) = point_text p
-pen_text pen.After = codes "after"
+pen_text Pen.Start = codes "start"
+pen_text (Pen.At p) = point_text p
+pen_text Pen.After = codes "after"
 
 abbrev pub mask_size_text : Option Displacement → List ℕ
 mask_size_text None = codes "none"
@@ -74,12 +65,12 @@ abbrev pub ink_text : Ink → List ℕ
 ink_text ink = codes "pel=" ++ move_text ink.pel ++ codes " colour=" ++ colour_text ink.colour ++ codes " texture=" ++ texture_text ink.texture
 
 abbrev pub size_text : CharSize → List ℕ
-size_text (char_size.Named size.Small) = codes "small"
-size_text (char_size.Named size.Medium) = codes "medium"
-size_text (char_size.Named size.Normal) = codes "normal"
-size_text (char_size.Named size.Tall) = codes "tall"
-size_text (char_size.Named size.Double) = codes "double"
-size_text (char_size.Given m) = move_text m
+size_text (CharSize.Named Size.Small) = codes "small"
+size_text (CharSize.Named Size.Medium) = codes "medium"
+size_text (CharSize.Named Size.Normal) = codes "normal"
+size_text (CharSize.Named Size.Tall) = codes "tall"
+size_text (CharSize.Named Size.Double) = codes "double"
+size_text (CharSize.Given m) = move_text m
 
 -- the letter of a flag that is on, and `-` for one that is off
 abbrev pub flag_text : Bool → List ℕ → List ℕ
@@ -98,58 +89,58 @@ abbrev pub fill_text : Bool → List ℕ
 fill_text filled = if filled then codes "FILLED" else codes "OUTLINED"
 
 abbrev pub set_text : CharSet → List ℕ
-set_text char_set.Primary = codes "primary"
-set_text char_set.Supplementary = codes "supplementary"
-set_text char_set.Mosaic = codes "mosaic"
-set_text char_set.Drcs = codes "drcs"
+set_text CharSet.Primary = codes "primary"
+set_text CharSet.Supplementary = codes "supplementary"
+set_text CharSet.Mosaic = codes "mosaic"
+set_text CharSet.Drcs = codes "drcs"
 
 abbrev pub step_text : TextStep → List ℕ
-step_text step.Apb = codes "APB"
-step_text step.Apf = codes "APF"
-step_text step.Apd = codes "APD"
-step_text step.Apu = codes "APU"
-step_text step.Apr = codes "APR"
-step_text step.Aph = codes "APH"
-step_text (step.Aps row column) = codes "APS " ++ code_text row ++ codes " " ++ code_text column
+step_text TextStep.Apb = codes "APB"
+step_text TextStep.Apf = codes "APF"
+step_text TextStep.Apd = codes "APD"
+step_text TextStep.Apu = codes "APU"
+step_text TextStep.Apr = codes "APR"
+step_text TextStep.Aph = codes "APH"
+step_text (TextStep.Aps row column) = codes "APS " ++ code_text row ++ codes " " ++ code_text column
 
 abbrev pub area_text : Area → List ℕ
-area_text area.Whole = codes "whole"
-area_text (area.Part from to) = point_text from ++ codes " " ++ point_text to
+area_text Area.Whole = codes "whole"
+area_text (Area.Part from to) = point_text from ++ codes " " ++ point_text to
 
 abbrev pub mark_text : Bool → List ℕ
 mark_text on = if on then codes "START" else codes "STOP"
 
 abbrev pub cursor_text : CursorKind → List ℕ
-cursor_text cursor.Flash = codes "flash"
-cursor_text cursor.Steady = codes "steady"
-cursor_text cursor.Off = codes "off"
+cursor_text CursorKind.Flash = codes "flash"
+cursor_text CursorKind.Steady = codes "steady"
+cursor_text CursorKind.Off = codes "off"
 
 abbrev pub mask_text : Mask → List ℕ
-mask_text mask.A = codes "A"
-mask_text mask.B = codes "B"
-mask_text mask.C = codes "C"
-mask_text mask.D = codes "D"
+mask_text Mask.A = codes "A"
+mask_text Mask.B = codes "B"
+mask_text Mask.C = codes "C"
+mask_text Mask.D = codes "D"
 
 -- the line of an entry, without LF
 abbrev pub line : Entry → List ℕ
-line (entry.Point at pel colour) = codes "POINT " ++ point_text at ++ codes " pel=" ++ move_text pel ++ codes " colour=" ++ colour_text colour
-line (entry.Line from to ink) = codes "LINE " ++ point_text from ++ codes " " ++ point_text to ++ codes " " ++ ink_text ink
-line (entry.Arc filled points ink) = codes "ARC-" ++ fill_text filled ++ points_text points ++ codes " " ++ ink_text ink
-line (entry.Rect filled from to ink) = codes "RECT-" ++ fill_text filled ++ codes " " ++ point_text from ++ codes " " ++ point_text to ++ codes " " ++ ink_text ink
-line (entry.Poly filled points ink) = codes "POLY-" ++ fill_text filled ++ points_text points ++ codes " " ++ ink_text ink
-line (entry.Char set code hand) = codes "CHAR " ++ set_text set ++ codes " " ++ code_text code ++ codes " " ++ hand_text hand
-line (entry.TextMove step hand) = codes "MOVE " ++ step_text step ++ codes " " ++ hand_text hand
-line (entry.ToEol hand) = codes "TO-EOL " ++ hand_text hand
-line (entry.Map addr grb) = codes "MAP " ++ decimal addr ++ codes " " ++ grb_text grb
-line (entry.Blink addr on off delay colour) = codes "BLINK " ++ decimal addr ++ codes " " ++ decimal on ++ codes "," ++ decimal off ++ codes "," ++ decimal delay ++ codes " colour=" ++ colour_text colour
-line (entry.BlinkEnd colour) = codes "BLINK-END colour=" ++ colour_text colour
-line (entry.BlinkMark on colour) = codes "BLINK-" ++ mark_text on ++ codes " colour=" ++ colour_text colour
-line (entry.Wait tenths) = codes "WAIT " ++ decimal tenths
-line entry.Bell = codes "BELL"
-line (entry.Cursor kind) = codes "CURSOR " ++ cursor_text kind
-line (entry.Field area pen) = codes "FIELD " ++ area_text area ++ codes " pen=" ++ pen_text pen
-line (entry.Reset first second pen) = codes "RESET " ++ decimal first ++ codes " " ++ decimal second ++ codes " pen=" ++ pen_text pen
-line (entry.Clear pen) = codes "CLEAR pen=" ++ pen_text pen
-line (entry.GlyphStart code) = codes "GLYPH " ++ code_text code
-line (entry.MaskStart mask) = codes "MASK " ++ mask_text mask
-line entry.DefEnd = codes "END"
+line (Entry.Point at pel colour) = codes "POINT " ++ point_text at ++ codes " pel=" ++ move_text pel ++ codes " colour=" ++ colour_text colour
+line (Entry.Line from to ink) = codes "LINE " ++ point_text from ++ codes " " ++ point_text to ++ codes " " ++ ink_text ink
+line (Entry.Arc filled points ink) = codes "ARC-" ++ fill_text filled ++ points_text points ++ codes " " ++ ink_text ink
+line (Entry.Rect filled from to ink) = codes "RECT-" ++ fill_text filled ++ codes " " ++ point_text from ++ codes " " ++ point_text to ++ codes " " ++ ink_text ink
+line (Entry.Poly filled points ink) = codes "POLY-" ++ fill_text filled ++ points_text points ++ codes " " ++ ink_text ink
+line (Entry.Char set code hand) = codes "CHAR " ++ set_text set ++ codes " " ++ code_text code ++ codes " " ++ hand_text hand
+line (Entry.TextMove step hand) = codes "MOVE " ++ step_text step ++ codes " " ++ hand_text hand
+line (Entry.ToEol hand) = codes "TO-EOL " ++ hand_text hand
+line (Entry.Map addr grb) = codes "MAP " ++ decimal addr ++ codes " " ++ grb_text grb
+line (Entry.Blink addr on off delay colour) = codes "BLINK " ++ decimal addr ++ codes " " ++ decimal on ++ codes "," ++ decimal off ++ codes "," ++ decimal delay ++ codes " colour=" ++ colour_text colour
+line (Entry.BlinkEnd colour) = codes "BLINK-END colour=" ++ colour_text colour
+line (Entry.BlinkMark on colour) = codes "BLINK-" ++ mark_text on ++ codes " colour=" ++ colour_text colour
+line (Entry.Wait tenths) = codes "WAIT " ++ decimal tenths
+line Entry.Bell = codes "BELL"
+line (Entry.Cursor kind) = codes "CURSOR " ++ cursor_text kind
+line (Entry.Field area pen) = codes "FIELD " ++ area_text area ++ codes " pen=" ++ pen_text pen
+line (Entry.Reset first second pen) = codes "RESET " ++ decimal first ++ codes " " ++ decimal second ++ codes " pen=" ++ pen_text pen
+line (Entry.Clear pen) = codes "CLEAR pen=" ++ pen_text pen
+line (Entry.GlyphStart code) = codes "GLYPH " ++ code_text code
+line (Entry.MaskStart mask) = codes "MASK " ++ mask_text mask
+line Entry.DefEnd = codes "END"

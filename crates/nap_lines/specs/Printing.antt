@@ -1,10 +1,9 @@
 use Rattle.std.specs.Prelude.{ℕ, ◌≡◌, ◌<◌, true, false, List, [], ◌∷◌, ◌++◌, length, take, Result, Ok, Err}
 use Rattle.nap_list.specs.declared.device.DeviceFault.{DeviceFault}
-use Rattle.nap_list.specs.declared.device.outlet.Outlet as outlet
+use Rattle.nap_list.specs.declared.device.Outlet as outlet
 use Rattle.nap_list.specs.declared.entry.Entry.{Entry}
 use Rattle.nap_list.specs.declared.sink.BatchFault.{BatchFault}
 use Rattle.nap_list.specs.declared.sink.SinkFault.{SinkFault}
-use Rattle.nap_list.specs.declared.sink.SinkFault.TheVariants as faults
 use Rattle.nap_list.specs.declared.state.State.{State}
 use Rattle.nap_list.specs.Sending.{Sending, sending, Grows}
 use Rattle.nap_list.specs.State.{walk}
@@ -66,8 +65,8 @@ SendsBuffered s buffered now t (Err fault) = ((left : List ℕ) × SendsPart s b
 -- n lines of a list were printed, and then memory ran out, which is less than a printer needs, or a write failed, with an
 -- outlet that hadn't failed before
 abbrev pub PrintsUpTo : {O : Type 0} → outlet.Ghosts O → Printing O → List Entry → ℕ → Printing O → SinkFault → Type 0
-PrintsUpTo o s d n t faults.Memory = SendsPart (sending_by o s) s.buffered (lines (take n d)) t.buffered (sending_by o t) × (o.failed t.outlet ≡ false) × (s.space < line_memory)
-PrintsUpTo o s d n t faults.Write = ((left : List ℕ) × SendsPart (sending_by o s) s.buffered (lines (take n d)) left (sending_by o t)) × (o.failed t.outlet ≡ true)
+PrintsUpTo o s d n t SinkFault.Memory = SendsPart (sending_by o s) s.buffered (lines (take n d)) t.buffered (sending_by o t) × (o.failed t.outlet ≡ false) × (s.space < line_memory)
+PrintsUpTo o s d n t SinkFault.Write = ((left : List ℕ) × SendsPart (sending_by o s) s.buffered (lines (take n d)) left (sending_by o t)) × (o.failed t.outlet ≡ true)
 
 -- the lines of a list were printed, all of them or as many as the error says, with an outlet that hadn't failed before;
 -- the state is unchanged, and so is the memory

@@ -2,7 +2,6 @@ use Rattle.std.specs.Prelude.{ℕ, ◌≡◌, ◌<◌, ◌≤◌, ◌+◌, ◌*�
 use Rattle.std.specs.declared.vec.Vec.{Vec}
 use Rattle.std.specs.Str.{IsUtf8}
 use Rattle.nap_list.specs.declared.entry.Entry.{Entry}
-use Rattle.nap_list.specs.declared.entry.Entry.TheVariants as entry
 
 -- the greatest number of bytes of a line, if the entry isn't a shape
 abbrev pub line_limit : ℕ
@@ -25,6 +24,6 @@ AppendsText old bytes new (Err fault) = take (length old) new ≡ old
 
 -- the number of points of an entry, if it is a shape
 abbrev pub shape_size : Entry → ℕ
-shape_size (entry.Arc filled points ink) = length points
-shape_size (entry.Poly filled points ink) = length points
+shape_size (Entry.Arc filled points ink) = length points
+shape_size (Entry.Poly filled points ink) = length points
 shape_size _ = 0

@@ -5,6 +5,15 @@ ghost use Rattle.nap_lines.specs.Lines.{code_text};
 
 use crate::backward_buffer::digit;
 
+/// Returns `count` items from `first`.
+#[inline(always)]
+pub(crate) fn slice_part<X>(items: &[X], first: usize, count: usize) -> &[X]
+    requires { first + count ≤ length items.now }
+    ensures { result.now ≡ take count (drop first items.now) }
+{
+    &items[first..first + count]
+}
+
 /// The number of bytes of a block of lines.
 pub(crate) const BLOCK: usize = 1_024;
 

@@ -5,13 +5,9 @@ mod backward_buffer;
 mod batch;
 mod block;
 mod field;
-mod letters;
 mod line;
 mod line_sink;
 mod printer;
-mod sending;
-mod shape;
-mod slices;
 
 pub use line::{append_line, line_of};
 pub use line_sink::LineSink;

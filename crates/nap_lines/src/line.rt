@@ -1,15 +1,17 @@
 //! The line of an entry (PROFILE.md, Lines of list).
-ghost use Rattle.std.specs.Prelude.{◌≡◌, ◌+◌, ◌*◌, ◌≤◌, [], ◌∷◌, ◌++◌, IfOk, OnOk, OnErr, codes, length, string_bytes};
+ghost use Rattle.std.specs.Prelude.{◌≡◌, ◌+◌, ◌*◌, ◌≤◌, [], ◌∷◌, ◌++◌, IfOk, OnOk, OnErr, codes, length, string_bytes, if◌then◌else◌};
 ghost use Rattle.std.specs.Str.{IsUtf8};
 ghost use Rattle.nap_lines.specs.Lines.{line, points_text, fill_text, ink_text};
 ghost use Rattle.nap_lines.specs.Parts.{first_part, last_part};
 ghost use Rattle.nap_lines.specs.Writing.{AppendsText, NeedsUpTo, line_limit, shape_size};
+ghost use Rattle.nap_list.specs.Shapes.{entry_of_shape, shape_points};
+ghost use Rattle.nap_lines.specs.Shapes.{closing_points, shape_name};
 
 use crate::backward_buffer::BackwardBuffer;
+use crate::block::slice_part;
 use crate::field::{POINTS_AT_ONCE, fill_name, mark_name};
-use crate::slices::slice_part;
 use nap_codes::{CharSet, CursorKind, Mask, TextStep};
-use nap_list::{Area, Colour, Entry, Hand, Ink, Pen, Points};
+use nap_list::{Area, Colour, Entry, Hand, Ink, Pen, Points, Shape, ShapeKind};
 use nap_values::{Addr, Grb, Move, Point, Word};
 use std::alloc::{AllocError, Global};
 
@@ -246,6 +248,24 @@ pub(crate) fn write_points(
     Ok(())
 }
 
+// Appends the name of a shape.
+pub(crate) fn write_shape_name(
+    buffer: &mut BackwardBuffer,
+    text: &mut Vec<u8>,
+    name: &str,
+    filled: bool,
+) -> Result<(), AllocError>
+    requires { length name.now ≤ 5 }
+    ensures appends { AppendsText text.old.items (name.now ++ fill_text filled) text.new.items result }
+    ensures memory { NeedsUpTo 13 text.old text.new result }
+{
+    buffer.clear();
+    buffer.push(fill_name(filled));
+    buffer.push(name);
+    text.extend_from_slice(buffer.as_slice())?;
+    Ok(())
+}
+
 // Appends the name and the points of a shape.
 fn write_shape(
     buffer: &mut BackwardBuffer,
@@ -258,12 +278,8 @@ fn write_shape(
     ensures appends { AppendsText text.old.items (name.now ++ fill_text filled ++ points_text points.now) text.new.items result }
     ensures memory { NeedsUpTo (13 + 16 * length points.now) text.old text.new result }
 {
-    buffer.clear();
-    buffer.push(fill_name(filled));
-    buffer.push(name);
-    text.extend_from_slice(buffer.as_slice())?;
-    write_points(buffer, text, points.as_slice())?;
-    Ok(())
+    write_shape_name(buffer, text, name, filled)?;
+    write_points(buffer, text, points.as_slice())
 }
 
 // Appends the name and the points of a shape, and nothing for any other entry.
@@ -337,4 +353,86 @@ pub fn line_of(alloc: Global, entry: &Entry) -> Result<String, AllocError>
     let mut text = Vec::new(alloc);
     write_line(&mut BackwardBuffer::new(), &mut text, entry, "")?;
     Ok(String::from_utf8(text).unwrap())
+}
+
+/// Returns the name of a shape.
+fn shape_name(kind: ShapeKind) -> &'static str
+    ensures bytes { result.now ≡ shape_name kind }
+    ensures size { length result.now ≤ 5 }
+{
+    match kind {
+        ShapeKind::Arc => "ARC-",
+        ShapeKind::Poly => "POLY-",
+    }
+}
+
+/// Whether a shape returns to its start: an arc of one displacement, a circle.
+fn returns_to_start(shape: &Shape) -> bool
+    ensures { closing_points shape.now.kind shape.now.from shape.now.others.now ≡ (if result then shape.now.from ∷ [] else []) }
+{
+    match shape.kind {
+        ShapeKind::Arc => shape.others.len() == 1,
+        ShapeKind::Poly => false,
+    }
+}
+
+/// Appends the start of a shape again, if it returns there.
+fn write_closing(
+    buffer: &mut BackwardBuffer,
+    text: &mut Vec<u8>,
+    shape: &Shape,
+) -> Result<(), AllocError>
+    ensures appends { AppendsText text.old.items (points_text (closing_points shape.now.kind shape.now.from shape.now.others.now)) text.new.items result }
+    ensures memory { NeedsUpTo 16 text.old text.new result }
+{
+    if !returns_to_start(shape) {
+        return Ok(());
+    }
+    write_points(buffer, text, &[shape.from])
+}
+
+/// Appends the part INK of a shape, and LF.
+fn write_ink(buffer: &mut BackwardBuffer, text: &mut Vec<u8>, ink: &Ink) -> Result<(), AllocError>
+    ensures appends { AppendsText text.old.items (codes " " ++ ink_text ink.now ++ 10 ∷ []) text.new.items result }
+    ensures memory { NeedsUpTo 256 text.old text.new result }
+{
+    buffer.clear();
+    buffer.push("\n");
+    buffer.push_ink_part(ink);
+    text.extend_from_slice(buffer.as_slice())?;
+    Ok(())
+}
+
+/// Appends the line of a shape's entry, and LF.
+fn write_shape_parts(
+    buffer: &mut BackwardBuffer,
+    text: &mut Vec<u8>,
+    shape: &Shape,
+) -> Result<(), AllocError>
+    ensures appends { AppendsText text.old.items (line (entry_of_shape shape.now) ++ 10 ∷ []) text.new.items result }
+    ensures memory { NeedsUpTo (16 * length shape.now.others.now + 301) text.old text.new result }
+{
+    write_shape_name(buffer, text, shape_name(shape.kind), shape.filled)?;
+    write_points(buffer, text, &[shape.from])?;
+    write_points(buffer, text, shape.others)?;
+    write_closing(buffer, text, shape)?;
+    write_ink(buffer, text, &shape.drawing.ink())
+}
+
+/// Appends the line of a shape's entry and LF to the text, using a buffer whose contents are ignored.
+pub(crate) fn write_shape_line(
+    buffer: &mut BackwardBuffer,
+    text: &mut Vec<u8>,
+    shape: &Shape,
+) -> Result<(), AllocError>
+    ensures ok { OnOk result (text.new.items ≡ text.old.items ++ (line (entry_of_shape shape.now) ++ 10 ∷ [])) }
+    ensures err { OnErr result (text.new.items ≡ text.old.items) }
+    ensures memory { NeedsUpTo (16 * length shape.now.others.now + 301) text.old text.new result }
+{
+    let before = text.len();
+    let written = write_shape_parts(buffer, text, shape);
+    if written.is_err() {
+        text.truncate(before);
+    }
+    written
 }

@@ -5,8 +5,7 @@ ghost use Rattle.nap_lines.specs.Listing.{TakesLinesOf, lists_more, lists_none};
 
 use crate::backward_buffer::BackwardBuffer;
 use crate::batch::write_batch;
-use crate::line::write_line;
-use crate::shape::write_shape_line;
+use crate::line::{write_line, write_shape_line};
 use nap_list::{Batch, BatchFault, Entry, GhostState, Shape, Sink, SinkFault};
 use std::alloc::Global;
 use std::marker::Model;

@@ -1,18 +1,60 @@
 //! A sink that prints lines of its entries.
-ghost use Rattle.std.specs.Prelude.{◌≡◌, ◌<◌, [], false, vec_capacity};
+ghost use Rattle.std.specs.Prelude.{◌≡◌, ◌<◌, [], false, vec_capacity, OnOk, vec_len};
 ghost use Rattle.nap_list.specs.Batches.{batch_entries};
 ghost use Rattle.nap_list.specs.State.{start};
-ghost use Rattle.nap_lines.specs.Printing.{BrokeLines, Closes, PrintsLines, TookLines, line_memory, taken_count};
+ghost use Rattle.nap_lines.specs.Printing.{BrokeLines, Closes, PrintsLines, TookLines, line_memory, taken_count, SendsBuffered};
 ghost use Rattle.nap_lines.specs.PrintingLaws.{took_broke, took_more, took_none, wants_more};
+ghost use Rattle.nap_list.specs.Sending.{sending};
 
 use crate::backward_buffer::BackwardBuffer;
 use crate::batch::write_batch;
-use crate::line::write_line;
-use crate::sending::{send_buffered, send_if_large};
-use crate::shape::write_shape_line;
-use nap_list::{Batch, BatchFault, Entry, GhostState, Outlet, Shape, Sink, SinkFault};
+use crate::line::{write_line, write_shape_line};
+use nap_list::{
+    Batch, BatchFault, DeviceFault, Entry, GhostState, Outlet, Shape, Sink, SinkFault, send_all,
+};
 use std::alloc::Global;
 use std::marker::Model;
+
+/// The least number of bytes of lines that are sent, as many as a pipe takes at once.
+const SEND_SIZE: usize = 65_536;
+
+/// Sends the buffered bytes, and keeps the memory.
+#[inline(never)]
+pub(crate) fn send_buffered<O: Outlet>(
+    outlet: &mut O,
+    written: &mut u64,
+    buffered: &mut Vec<u8>,
+) -> Result<(), DeviceFault>
+    ensures sent { SendsBuffered (sending O.Outlet outlet.old written.old) buffered.old.items buffered.new.items (sending O.Outlet outlet.new written.new) result }
+    ensures memory { vec_capacity buffered.new ≡ vec_capacity buffered.old }
+    ensures none { OnOk result (buffered.new.items ≡ []) }
+    ensures few { OnOk result (vec_len buffered.new ≡ 0) }
+{
+    match send_all(outlet, written, buffered.as_slice()) {
+        Ok(()) => {
+            buffered.clear();
+            Ok(())
+        }
+        Err(_) => Err(DeviceFault),
+    }
+}
+
+/// Sends the buffered bytes if they are enough for a write, and keeps the memory.
+#[inline(always)]
+pub(crate) fn send_if_large<O: Outlet>(
+    outlet: &mut O,
+    written: &mut u64,
+    buffered: &mut Vec<u8>,
+) -> Result<(), DeviceFault>
+    ensures sent { SendsBuffered (sending O.Outlet outlet.old written.old) buffered.old.items buffered.new.items (sending O.Outlet outlet.new written.new) result }
+    ensures memory { vec_capacity buffered.new ≡ vec_capacity buffered.old }
+    ensures few { OnOk result (vec_len buffered.new < 65536) }
+{
+    if buffered.len() < SEND_SIZE {
+        return Ok(());
+    }
+    send_buffered(outlet, written, buffered)
+}
 
 /// The greatest number of entries of a batch whose lines are made at once.
 const BATCH_SIZE: usize = 128;

@@ -1,21 +1,15 @@
-use Rattle.nap_list.proofs.Common.{AgreeingFits, Agrees, AreCurrent, Attributes, AttributesFit, Base, BaseAgrees, Bool, Colour, ColourAgrees, ColourFits, Coordinates, CurrentAttributesChangeNothing, DefinitionsAgree, Displacement, Drawing, Entry, EqualCurrent, IfSome, IsCode, IsSome, LastChar, List, MaskFits, MayCome, ModeZeroIsBase, None, OpenDefinition, Option, Pen, PenFits, Some, StartAgrees, State, StatesAgree, Texture, TextureFits, WellMade, ap, attributes, base_after, colour_code, cond, definition_after, effect_on_drawing, false, is_known, known_after, last_after, length, refl, reset, restored_drawing, slice_get, start_texture, subst, sym, true, unwrap_or, with_attributes, with_pen, with_pen_at, ℕ, ◌%◌, ◌-◌, ◌/◌, ◌==◌, ◌≡◌}
-use Rattle.nap_list.specs.declared.attribute.Origin.TheVariants as origins
-use Rattle.nap_list.specs.declared.attribute.Preset.TheVariants as presets
+use Rattle.nap_list.proofs.Common.{AgreeingFits, Agrees, AreCurrent, Attributes, AttributesFit, Base, BaseAgrees, Bool, Colour, ColourAgrees, ColourFits, Coordinates, CurrentAttributesChangeNothing, DefinitionsAgree, Displacement, Drawing, Entry, EqualCurrent, IfSome, IsCode, IsSome, LastChar, List, MaskFits, MayCome, ModeZeroIsBase, None, OpenDefinition, Option, Origin, Pen, PenFits, Preset, Some, StartAgrees, State, StatesAgree, Texture, TextureFits, WellMade, ap, attributes, base_after, colour_code, cond, definition_after, effect_on_drawing, false, is_known, known_after, last_after, length, refl, reset, restored_drawing, slice_get, start_texture, subst, sym, true, unwrap_or, with_attributes, with_pen, with_pen_at, ℕ, ◌%◌, ◌-◌, ◌/◌, ◌==◌, ◌≡◌}
 use Rattle.nap_list.specs.Types.{MapColour}
-use Rattle.nap_list.specs.declared.attribute.Pen.TheVariants as pens
-use Rattle.nap_list.specs.declared.attribute.Base.TheVariants as bases
-use Rattle.nap_list.specs.declared.attribute.Colour.TheVariants as colours
-use Rattle.nap_list.specs.declared.entry.Entry.TheVariants as entries
 
 -- an attribute fits a state in which it is current
 
 pen_itself : (pen : Pen) → PenFits pen (Some pen)
-pen_itself pens.Start = refl
-pen_itself (pens.At p) = tt
-pen_itself pens.After = refl
+pen_itself Pen.Start = refl
+pen_itself (Pen.At p) = tt
+pen_itself Pen.After = refl
 
 colour_itself : (colour : Colour) → ColourAgrees colour colour
-colour_itself (colours.ByReset preset) = refl
+colour_itself (Colour.ByReset preset) = refl
 colour_itself _ = tt
 
 mask_itself : (word : ℕ) (mask : Option Displacement) → MaskFits (record { word = word; mask = mask }) mask
@@ -30,8 +24,8 @@ pen_fits (Some p) pen shown is h = subst (λ (x : Pen). PenFits shown (Some x)) 
 
 -- this colour fits if it is in use in an agreeing state
 colour_at : (d shown : Drawing) (colour : Colour) → BaseAgrees d.base shown.base → ColourAgrees colour shown.colour → ModeZeroIsBase d.base colour → ColourFits shown (Some colour)
-colour_at d shown (colours.Own origin) base c mode = subst (λ (b : Base). BaseAgrees b shown.base) mode base
-colour_at d shown (colours.ByReset preset) base c mode = c
+colour_at d shown (Colour.Own origin) base c mode = subst (λ (b : Base). BaseAgrees b shown.base) mode base
+colour_at d shown (Colour.ByReset preset) base c mode = c
 colour_at d shown _ base c mode = tt
 
 colour_fits : (w : Option Colour) (d shown : Drawing) → IfSome w (λ c. c ≡ d.colour) → Agrees d shown → ColourFits shown w
@@ -64,13 +58,13 @@ colour_taken None colour shown h = h
 colour_taken (Some c) colour shown h = colour_itself c
 
 base_taken : (w : Option Colour) (base shown : Base) → BaseAgrees base shown → BaseAgrees (base_after base w) (base_after shown w)
-base_taken (Some (colours.Direct grb)) base shown h = tt
+base_taken (Some (Colour.Direct grb)) base shown h = tt
 base_taken _ base shown h = h
 
 mode_taken : (w : Option Colour) (base : Base) (colour : Colour) → IfSome w (λ c. c ≡ colour) → ModeZeroIsBase base colour → ModeZeroIsBase (base_after base w) (unwrap_or w colour)
 mode_taken None base colour is h = h
-mode_taken (Some (colours.Own origin)) base colour is h = subst (ModeZeroIsBase base) (sym is) h
-mode_taken (Some (colours.Direct grb)) base colour is h = refl
+mode_taken (Some (Colour.Own origin)) base colour is h = subst (ModeZeroIsBase base) (sym is) h
+mode_taken (Some (Colour.Direct grb)) base colour is h = refl
 mode_taken _ base colour is h = tt
 
 taken_agree : (h : Attributes) (d shown : Drawing) → EqualCurrent h d → Agrees d shown → Agrees (with_attributes d h) (with_attributes shown h)
@@ -89,9 +83,9 @@ pen_set pen d shown h = record { pen = pen_itself pen; base = h.base; colour = h
 
 pen_set_at : (p : Option Coordinates) (d shown : Drawing) → Agrees d shown → Agrees (with_pen_at p d) (with_pen_at p shown)
 pen_set_at None d shown h = h
-pen_set_at (Some p) d shown h = pen_set (pens.At p) d shown h
+pen_set_at (Some p) d shown h = pen_set (Pen.At p) d shown h
 
-foreground_set : (a : ℕ) (d shown : Drawing) → Agrees d shown → Agrees (record d { colour = colours.Front a }) (record shown { colour = colours.Front a })
+foreground_set : (a : ℕ) (d shown : Drawing) → Agrees d shown → Agrees (record d { colour = Colour.Front a }) (record shown { colour = Colour.Front a })
 foreground_set a d shown h = record { pen = h.pen; base = h.base; colour = tt; mode = tt; texture = h.texture }
 
 cond_agree : {A : Type 0} (P : A → A → Type 0) (b : Bool) (x y u v : A) → P x u → P y v → P (cond b x y) (cond b u v)
@@ -99,8 +93,8 @@ cond_agree P true x y u v p q = p
 cond_agree P false x y u v p q = q
 
 reset_mode : (a b c : Bool) (base : Base) (colour : Colour) → ModeZeroIsBase base colour →
-    ModeZeroIsBase (cond a (bases.Own origins.AfterReset) base)
-    (cond a (colours.Own origins.AfterReset) (cond b (colours.ByReset presets.Two) (cond c (colours.ByReset presets.Three) colour)))
+    ModeZeroIsBase (cond a (Base.Own Origin.AfterReset) base)
+    (cond a (Colour.Own Origin.AfterReset) (cond b (Colour.ByReset Preset.Two) (cond c (Colour.ByReset Preset.Three) colour)))
 reset_mode true b c base colour h = refl
 reset_mode false true c base colour h = tt
 reset_mode false false true base colour h = tt
@@ -108,8 +102,8 @@ reset_mode false false false base colour h = h
 
 reset_colour : (a b c : Bool) (colour shown : Colour) → ColourAgrees colour shown →
     ColourAgrees
-    (cond a (colours.Own origins.AfterReset) (cond b (colours.ByReset presets.Two) (cond c (colours.ByReset presets.Three) colour)))
-    (cond a (colours.Own origins.AfterReset) (cond b (colours.ByReset presets.Two) (cond c (colours.ByReset presets.Three) shown)))
+    (cond a (Colour.Own Origin.AfterReset) (cond b (Colour.ByReset Preset.Two) (cond c (Colour.ByReset Preset.Three) colour)))
+    (cond a (Colour.Own Origin.AfterReset) (cond b (Colour.ByReset Preset.Two) (cond c (Colour.ByReset Preset.Three) shown)))
 reset_colour true b c colour shown h = tt
 reset_colour false true c colour shown h = refl
 reset_colour false false true colour shown h = refl
@@ -118,7 +112,7 @@ reset_colour false false false colour shown h = h
 reset_agree : (first second : ℕ) (d shown : Drawing) → Agrees d shown → Agrees (reset first second d) (reset first second shown)
 reset_agree first second d shown h = record {
   pen = refl;
-  base = cond_agree BaseAgrees (colour_code first == 1) (bases.Own origins.AfterReset) d.base (bases.Own origins.AfterReset) shown.base refl h.base;
+  base = cond_agree BaseAgrees (colour_code first == 1) (Base.Own Origin.AfterReset) d.base (Base.Own Origin.AfterReset) shown.base refl h.base;
   colour = reset_colour (colour_code first == 1) (colour_code first == 2) (colour_code first == 3) d.colour shown.colour h.colour;
   mode = reset_mode (colour_code first == 1) (colour_code first == 2) (colour_code first == 3) d.base d.colour h.mode;
   texture = cond_agree (λ (t u : Texture). TextureFits u (Some t)) (second / 8 % 2 == 1) start_texture d.texture start_texture shown.texture refl h.texture;
@@ -130,28 +124,28 @@ saved_agree (Some a) (Some b) d shown defs h = defs.1
 saved_agree _ _ d shown defs h = absurd defs
 
 drawn_agree : (o p : Option OpenDefinition) (d shown : Drawing) (e : Entry) → DefinitionsAgree o p → Agrees d shown → Agrees (effect_on_drawing o d e) (effect_on_drawing p shown e)
-drawn_agree o p d shown (entries.Point at pel colour) defs h = pen_set (pens.At at) d shown h
-drawn_agree o p d shown (entries.Line from to ink) defs h = pen_set (pens.At to) d shown h
-drawn_agree o p d shown (entries.Arc filled points ink) defs h = pen_set_at (slice_get points (length points - 1)) d shown h
-drawn_agree o p d shown (entries.Rect filled from to ink) defs h = pen_set (pens.At (record { x = to.x; y = from.y })) d shown h
-drawn_agree o p d shown (entries.Poly filled points ink) defs h = pen_set_at (slice_get points 0) d shown h
-drawn_agree o p d shown (entries.Char set code hand) defs h = pen_set pens.After d shown h
-drawn_agree o p d shown (entries.TextMove step hand) defs h = pen_set pens.After d shown h
-drawn_agree o p d shown (entries.ToEol hand) defs h = pen_set pens.After d shown h
-drawn_agree o p d shown (entries.Field area pen) defs h = pen_set pens.After d shown h
-drawn_agree o p d shown (entries.Clear pen) defs h = pen_set pens.After d shown h
-drawn_agree o p d shown (entries.Reset first second pen) defs h = reset_agree first second d shown h
-drawn_agree o p d shown (entries.Map addr grb) defs h = foreground_set addr d shown h
-drawn_agree o p d shown (entries.GlyphStart code) defs h = pen_set pens.Start d shown h
-drawn_agree o p d shown (entries.MaskStart mask) defs h = pen_set pens.Start d shown h
-drawn_agree o p d shown entries.DefEnd defs h = saved_agree o p d shown defs h
+drawn_agree o p d shown (Entry.Point at pel colour) defs h = pen_set (Pen.At at) d shown h
+drawn_agree o p d shown (Entry.Line from to ink) defs h = pen_set (Pen.At to) d shown h
+drawn_agree o p d shown (Entry.Arc filled points ink) defs h = pen_set_at (slice_get points (length points - 1)) d shown h
+drawn_agree o p d shown (Entry.Rect filled from to ink) defs h = pen_set (Pen.At (record { x = to.x; y = from.y })) d shown h
+drawn_agree o p d shown (Entry.Poly filled points ink) defs h = pen_set_at (slice_get points 0) d shown h
+drawn_agree o p d shown (Entry.Char set code hand) defs h = pen_set Pen.After d shown h
+drawn_agree o p d shown (Entry.TextMove step hand) defs h = pen_set Pen.After d shown h
+drawn_agree o p d shown (Entry.ToEol hand) defs h = pen_set Pen.After d shown h
+drawn_agree o p d shown (Entry.Field area pen) defs h = pen_set Pen.After d shown h
+drawn_agree o p d shown (Entry.Clear pen) defs h = pen_set Pen.After d shown h
+drawn_agree o p d shown (Entry.Reset first second pen) defs h = reset_agree first second d shown h
+drawn_agree o p d shown (Entry.Map addr grb) defs h = foreground_set addr d shown h
+drawn_agree o p d shown (Entry.GlyphStart code) defs h = pen_set Pen.Start d shown h
+drawn_agree o p d shown (Entry.MaskStart mask) defs h = pen_set Pen.Start d shown h
+drawn_agree o p d shown Entry.DefEnd defs h = saved_agree o p d shown defs h
 drawn_agree o p d shown e defs h = h
 
 definition_agrees : (o p : Option OpenDefinition) (d shown : Drawing) (e : Entry) → DefinitionsAgree o p → Agrees d shown →
     DefinitionsAgree (definition_after o d e) (definition_after p shown e)
-definition_agrees o p d shown (entries.GlyphStart code) defs h = (refl, h)
-definition_agrees o p d shown (entries.MaskStart mask) defs h = (refl, h)
-definition_agrees o p d shown entries.DefEnd defs h = tt
+definition_agrees o p d shown (Entry.GlyphStart code) defs h = (refl, h)
+definition_agrees o p d shown (Entry.MaskStart mask) defs h = (refl, h)
+definition_agrees o p d shown Entry.DefEnd defs h = tt
 definition_agrees o p d shown e defs h = defs
 
 none_agrees : (o p : Option OpenDefinition) → DefinitionsAgree o p → o ≡ None → p ≡ None
@@ -166,15 +160,15 @@ some_agrees (Some a) None defs is = absurd defs
 some_agrees (Some a) (Some b) defs is = refl
 
 comes_too : (s shown : State) (e : Entry) → StatesAgree s shown → MayCome s e → MayCome shown e
-comes_too s shown (entries.ToEol hand) h comes = subst (λ (l : Option LastChar). IsSome l) h.last comes
-comes_too s shown (entries.GlyphStart code) h comes = none_agrees s.definition shown.definition h.definition comes
-comes_too s shown (entries.MaskStart mask) h comes = none_agrees s.definition shown.definition h.definition comes
-comes_too s shown entries.DefEnd h comes = some_agrees s.definition shown.definition h.definition comes
-comes_too s shown (entries.Map a grb) h comes = subst (λ (known : List MapColour). is_known a grb known ≡ false) h.known comes
+comes_too s shown (Entry.ToEol hand) h comes = subst (λ (l : Option LastChar). IsSome l) h.last comes
+comes_too s shown (Entry.GlyphStart code) h comes = none_agrees s.definition shown.definition h.definition comes
+comes_too s shown (Entry.MaskStart mask) h comes = none_agrees s.definition shown.definition h.definition comes
+comes_too s shown Entry.DefEnd h comes = some_agrees s.definition shown.definition h.definition comes
+comes_too s shown (Entry.Map a grb) h comes = subst (λ (known : List MapColour). is_known a grb known ≡ false) h.known comes
 comes_too s shown e h comes = tt
 
 last_made : (e : Entry) → WellMade e → IfSome (last_after e) (λ (last : LastChar). IsCode last.code)
-last_made (entries.Char set code hand) made = made
+last_made (Entry.Char set code hand) made = made
 last_made e made = tt
 
 pub agreeing_fits : AgreeingFits
@@ -211,7 +205,7 @@ is_unwrapped None a is = refl
 is_unwrapped (Some b) a is = is
 
 base_stays : (w : Option Colour) (d : Drawing) → IfSome w (λ c. c ≡ d.colour) → ModeZeroIsBase d.base d.colour → base_after d.base w ≡ d.base
-base_stays (Some (colours.Direct grb)) d is h = sym (subst (ModeZeroIsBase d.base) (sym is) h)
+base_stays (Some (Colour.Direct grb)) d is h = sym (subst (ModeZeroIsBase d.base) (sym is) h)
 base_stays _ d is h = refl
 
 -- taking attributes that are all current changes nothing

@@ -1,10 +1,5 @@
-use Rattle.nap_list.proofs.Common.{AreCurrent, Base, Batch, BatchIsCurrent, CharSet, Colour, Coordinates, Drawing, EachIsCurrent, Entry, Hand, IsCodeInRange, List, None, Option, Pen, Some, State, StepMade, TextEntriesAreWellMade, TextLeaves, TextStep, WellMade, [], after, ap, arith, attributes, base_after, batch_entries, code_ranges, drop, drop-drop, drop-nil, format_effector, format_effector_front, get_or, hand_of, last_after, last_char_of_text, last_point, length, length-drop, line_entry, lines_rest, map, point_entry, points_rest, polyline_entries, refl, start_drawing, start_sets, subst, suc, sym, take, text_entries_in, text_entry, text_entry_as, text_entry_on, walk, with_attributes, with_pen, with_pen_and_last, zero, ℕ, ⊤, ◌++◌, ◌+◌, ◌-◌, ◌<◌, ◌∙◌, ◌∷◌, ◌≡◌, ◌≤◌}
-use Rattle.nap_codes.specs.declared.control.TextStep.TheVariants as steps
-use Rattle.nap_codes.specs.declared.code.Code.TheVariants as codes
-use Rattle.nap_list.specs.declared.attribute.Colour.TheVariants as colours
+use Rattle.nap_list.proofs.Common.{AreCurrent, Base, Batch, BatchIsCurrent, CharSet, Code, Colour, Coordinates, Drawing, EachIsCurrent, Entry, Hand, IsCodeInRange, List, None, Option, Pen, Some, State, StepMade, TextEntriesAreWellMade, TextLeaves, TextStep, WellMade, [], after, ap, arith, attributes, base_after, batch_entries, code_ranges, drop, drop-drop, drop-nil, format_effector, format_effector_front, get_or, hand_of, last_after, last_char_of_text, last_point, length, length-drop, line_entry, lines_rest, map, point_entry, points_rest, polyline_entries, refl, start, start_drawing, start_sets, subst, suc, sym, take, text_entries_in, text_entry, text_entry_as, text_entry_on, walk, with_attributes, with_pen, with_pen_and_last, zero, ℕ, ⊤, ◌++◌, ◌+◌, ◌-◌, ◌<◌, ◌∙◌, ◌∷◌, ◌≡◌, ◌≤◌}
 use Rattle.nap_list.specs.declared.attribute.Pen.TheVariants.{After}
-use Rattle.nap_list.specs.declared.batch.Batch.TheVariants as batches
-use Rattle.nap_list.specs.declared.entry.Entry.TheVariants as entries
 use Rattle.nap_list.proofs.Agreement.{current_changes_nothing}
 
 -- The entries of a batch: after the first, each holds the current attributes, and leaves another pen and another last
@@ -12,7 +7,7 @@ use Rattle.nap_list.proofs.Agreement.{current_changes_nothing}
 
 -- a direct colour that an entry held is current afterwards
 colour_stays : (base : Base) (colour : Colour) → base_after (base_after base (Some colour)) (Some colour) ≡ base_after base (Some colour)
-colour_stays base (colours.Direct grb) = refl
+colour_stays base (Colour.Direct grb) = refl
 colour_stays base _ = refl
 
 -- after the first entry, the attributes of the second are current
@@ -66,15 +61,15 @@ typed_mark set hand code s = by (format_effector code)
     by None = refl
 
 -- the entry of a byte of a text is well made: a move of one byte has no bytes of its own
-step_made : (step : TextStep) → IsCodeInRange (codes.Step step) → StepMade step
-step_made (steps.Aps a b) range = ((range.0.0, omega (arith, range.0.1)), (range.1.0, omega (arith, range.1.1)))
+step_made : (step : TextStep) → IsCodeInRange (Code.Step step) → StepMade step
+step_made (TextStep.Aps a b) range = ((range.0.0, omega (arith, range.0.1)), (range.1.0, omega (arith, range.1.1)))
 step_made _ range = tt
 
 pub typed_made : TextEntriesAreWellMade
 typed_made set hand code byte = by (format_effector code) refl
   where
     by : (step : Option TextStep) → format_effector code ≡ step → WellMade (text_entry_as step set hand code)
-    by (Some step) is = step_made step (code_ranges start_sets (code ∷ []) (codes.Step step) 1 start_sets ((format_effector_front code step is).1 start_sets))
+    by (Some step) is = step_made step (code_ranges start_sets (code ∷ []) (Code.Step step) 1 start_sets ((format_effector_front code step is).1 start_sets))
     by None is = byte is
 
 text_chain : (First : Entry → Type 0) (set : CharSet) (hand : Hand) → ((code : ℕ) → First (text_entry set hand code)) → (codes : List ℕ) → Chain First (text_entries_in set hand codes)
@@ -83,9 +78,9 @@ text_chain First set hand first [] = tt
 text_chain First set hand first (c ∷ cs) = (first c, typed_marks set hand c, text_chain (Next (text_entry set hand c)) set (record hand { pen = After }) (next_typed set hand c) cs)
 
 batch_chain : (b : Batch) → Chain (λ e. ⊤) (batch_entries b)
-batch_chain (batches.Points points d) = points_chain (λ e. ⊤) d.now (λ p. tt) points.now
-batch_chain (batches.Lines from points d) = lines_chain (λ e. ⊤) d.now from (λ p. tt) points.now
-batch_chain (batches.Text set codes pen d) = text_chain (λ e. ⊤) set (record (hand_of d.now) { pen = pen }) (λ c. tt) codes.now
+batch_chain (Batch.Points points d) = points_chain (λ e. ⊤) d.now (λ p. tt) points.now
+batch_chain (Batch.Lines from points d) = lines_chain (λ e. ⊤) d.now from (λ p. tt) points.now
+batch_chain (Batch.Text set codes pen d) = text_chain (λ e. ⊤) set (record (hand_of d.now) { pen = pen }) (λ c. tt) codes.now
 
 -- the attributes of each entry are current when it comes, if those of the first are
 chain_is_current : (s : State) (First : Entry → Type 0) (es : List Entry) → ((e : Entry) → First e → AreCurrent (attributes e) s.drawing) → Chain First es → EachIsCurrent s es
@@ -120,6 +115,20 @@ batch_passes s t b m n count less all_current further leaves = by (drop (m + n) 
         let size : suc n ≡ count = omega arith in
         leaves x xs is ∙ rw (← size) (sym (chain_passes s (λ e. ⊤) (batch_entries b) m n x xs (batch_chain b) all_current (drop-drop n m (batch_entries b) ∙ is)))
 
+-- the pen that the last of these entries leaves is all that changes, beside the last character
+pub batch_moves : (s : State) (pen : Pen) (b : Batch) (m n count : ℕ) → m + n < length (batch_entries b) → EachIsCurrent s (drop m (batch_entries b)) → suc n ≡ count →
+    ((x : Entry) (xs : List Entry) → drop (m + n) (batch_entries b) ≡ x ∷ xs → pen ≡ (after start x).drawing.pen) →
+    ((walk s (take count (drop m (batch_entries b)))).drawing ≡ with_pen pen s.drawing) × ((walk s (take count (drop m (batch_entries b)))).definition ≡ s.definition)
+batch_moves s pen b m n count less all_current size leaves = by (drop (m + n) (batch_entries b)) refl
+  where
+    by : (rest : List Entry) → drop (m + n) (batch_entries b) ≡ rest →
+        ((walk s (take count (drop m (batch_entries b)))).drawing ≡ with_pen pen s.drawing) × ((walk s (take count (drop m (batch_entries b)))).definition ≡ s.definition)
+    by [] is = absurd (omega (arith, less, ap length is, length-drop (m + n) (batch_entries b)))
+    by (x ∷ xs) is =
+        let all : walk s (take count (drop m (batch_entries b))) ≡ with_pen_and_last s x s.drawing =
+        rw (← size) (chain_passes s (λ e. ⊤) (batch_entries b) m n x xs (batch_chain b) all_current (drop-drop n m (batch_entries b) ∙ is)) in
+        (ap (λ (t : State). t.drawing) all ∙ ap (λ (p : Pen). with_pen p s.drawing) (sym (leaves x xs is)), ap (λ (t : State). t.definition) all)
+
 -- the last entry of a text leaves the same state after another entry as with the first attributes
 abbrev Again : CharSet → ℕ → State → Hand → ℕ → Option TextStep → Option TextStep → Type 0
 Again set last s hand c first second =
@@ -131,10 +140,10 @@ unfolding walk text_entries_in
 text_leaves s set hand codes front last is = ap (λ (cs : List ℕ). walk s (text_entries_in set hand cs)) is ∙ along s hand front
   where
     again : (s : State) (hand : Hand) (c : ℕ) (first second : Option TextStep) → Again set last s hand c first second
-    again s hand c (Some step) (Some move) current = ap (with_pen_and_last (after s (entries.TextMove step hand)) (entries.TextMove move (record hand { pen = After }))) (current_changes_nothing _ _ current)
-    again s hand c (Some step) None current = ap (with_pen_and_last (after s (entries.TextMove step hand)) (entries.Char set last (record hand { pen = After }))) (current_changes_nothing _ _ current)
-    again s hand c None (Some move) current = ap (with_pen_and_last (after s (entries.Char set c hand)) (entries.TextMove move (record hand { pen = After }))) (current_changes_nothing _ _ current)
-    again s hand c None None current = ap (with_pen_and_last (after s (entries.Char set c hand)) (entries.Char set last (record hand { pen = After }))) (current_changes_nothing _ _ current)
+    again s hand c (Some step) (Some move) current = ap (with_pen_and_last (after s (Entry.TextMove step hand)) (Entry.TextMove move (record hand { pen = After }))) (current_changes_nothing _ _ current)
+    again s hand c (Some step) None current = ap (with_pen_and_last (after s (Entry.TextMove step hand)) (Entry.Char set last (record hand { pen = After }))) (current_changes_nothing _ _ current)
+    again s hand c None (Some move) current = ap (with_pen_and_last (after s (Entry.Char set c hand)) (Entry.TextMove move (record hand { pen = After }))) (current_changes_nothing _ _ current)
+    again s hand c None None current = ap (with_pen_and_last (after s (Entry.Char set c hand)) (Entry.Char set last (record hand { pen = After }))) (current_changes_nothing _ _ current)
 
     along : (s : State) (hand : Hand) (front : List ℕ) → walk s (text_entries_in set hand (front ++ last ∷ [])) ≡ after s (text_entry set hand last)
     along s hand [] = refl
@@ -146,19 +155,19 @@ text_leaves s set hand codes front last is = ap (λ (cs : List ℕ). walk s (tex
 follows : {A : Type 0} (list : List A) (n : ℕ) (x : A) (xs : List A) → drop n list ≡ x ∷ xs → drop n list ≡ x ∷ drop (n + 1) list
 follows {A = A} list n x xs is = is ∙ ap (λ (l : List A). x ∷ l) (sym (ap (drop 1) is) ∙ drop-drop 1 n list)
 
-pub points_at : (b : Batch) (points : _) (d : _) (n : ℕ) (p : Coordinates) (ps : List Coordinates) → b ≡ batches.Points points d → drop n points.now ≡ p ∷ ps →
+pub points_at : (b : Batch) (points : _) (d : _) (n : ℕ) (p : Coordinates) (ps : List Coordinates) → b ≡ Batch.Points points d → drop n points.now ≡ p ∷ ps →
     drop n (batch_entries b) ≡ point_entry d.now p ∷ drop (n + 1) (batch_entries b)
 points_at b points d n p ps is cut =
     follows (batch_entries b) n (point_entry d.now p) (map (point_entry d.now) ps) (rw is (sym (points_rest d.now points.now n) ∙ ap (map (point_entry d.now)) cut))
 
-pub lines_at : (b : Batch) (from : _) (points : _) (d : _) (n : ℕ) (p : Coordinates) (ps : List Coordinates) → b ≡ batches.Lines from points d → drop n points.now ≡ p ∷ ps →
+pub lines_at : (b : Batch) (from : _) (points : _) (d : _) (n : ℕ) (p : Coordinates) (ps : List Coordinates) → b ≡ Batch.Lines from points d → drop n points.now ≡ p ∷ ps →
     drop n (batch_entries b) ≡ line_entry d.now (last_point from (take n points.now)) p ∷ drop (n + 1) (batch_entries b)
 unfolding polyline_entries
 lines_at b from points d n p ps is cut =
     let start = last_point from (take n points.now) in
     follows (batch_entries b) n (line_entry d.now start p) (polyline_entries d.now p ps) (rw is (sym (lines_rest d.now from points.now n) ∙ ap (polyline_entries d.now start) cut))
 
-pub text_at : (b : Batch) (set : _) (codes : _) (first : Pen) (d : _) (n : ℕ) (pen : Pen) (c : ℕ) (cs : List ℕ) → b ≡ batches.Text set codes first d →
+pub text_at : (b : Batch) (set : _) (codes : _) (first : Pen) (d : _) (n : ℕ) (pen : Pen) (c : ℕ) (cs : List ℕ) → b ≡ Batch.Text set codes first d →
     (n ≡ 0 → pen ≡ first) → (0 < n → pen ≡ After) → drop n codes.now ≡ c ∷ cs → drop n (batch_entries b) ≡ text_entry_on d.now pen set c ∷ drop (n + 1) (batch_entries b)
 unfolding text_entries_in
 text_at b set codes first d n pen c cs is front later cut =
@@ -176,6 +185,33 @@ pub same_mark : (s : State) (list : List Entry) (x e : Entry) (xs es : List Entr
 same_mark s list x e xs es first second =
     let same : x ≡ e = cc in
     ap (λ (e : Entry). with_pen_and_last s e s.drawing) same
+
+-- the pen that the first entry of a list leaves
+pub same_pen : (list : List Entry) (x e : Entry) (xs es : List Entry) → list ≡ x ∷ xs → list ≡ e ∷ es → (after start x).drawing.pen ≡ (after start e).drawing.pen
+same_pen list x e xs es first second =
+    let same : x ≡ e = cc in
+    ap (λ (e : Entry). (after start e).drawing.pen) same
+
+-- an entry of a text leaves the pen unknown
+
+typed_pen : (set : CharSet) (hand : Hand) (code : ℕ) → After ≡ (after start (text_entry set hand code)).drawing.pen
+typed_pen set hand code = by (format_effector code)
+  where
+    by : (step : Option TextStep) → After ≡ (after start (text_entry_as step set hand code)).drawing.pen
+    by (Some step) = refl
+    by None = refl
+
+pub text_pen : (b : Batch) (set : _) (codes : _) (first : Pen) (d : _) (n : ℕ) (e : Entry) (es : List Entry) → b ≡ Batch.Text set codes first d → drop n (batch_entries b) ≡ e ∷ es →
+    After ≡ (after start e).drawing.pen
+unfolding text_entries_in
+text_pen b set codes first d n e es is cut = at (record (hand_of d.now) { pen = first }) codes.now n (subst (λ (b : Batch). drop n (batch_entries b) ≡ e ∷ es) is cut)
+  where
+    at : (hand : Hand) (codes : List ℕ) (n : ℕ) → drop n (text_entries_in set hand codes) ≡ e ∷ es → After ≡ (after start e).drawing.pen
+    at hand [] n cut = let bad : ⊥ = cc (cut, drop-nil {A = Entry} n) in absurd bad
+    at hand (c ∷ cs) zero cut =
+        let same : text_entry set hand c ≡ e = cc in
+        typed_pen set hand c ∙ ap (λ (x : Entry). (after start x).drawing.pen) same
+    at hand (c ∷ cs) (suc n) cut = at (record hand { pen = After }) cs n cut
 
 -- where a line begins
 

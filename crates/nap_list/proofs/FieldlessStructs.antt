@@ -6,7 +6,7 @@ use mir.Val.{vstruct, vnil}
 use seplogic.Ra.Ura.{Ura}
 use types.Kit.{Goal, Step, step, Item, fpack, feq_i}
 use types.Logic.{Logic}
-pub use Rattle.std.proofs.Common.{[], ◌∷◌, refl, take, w64}
+pub use Rattle.std.proofs.Common.{[], ◌∷◌, refl, drop, take, w64}
 pub use Rattle.std.proofs.raw_atomic.Walks.{proved}
 pub use contract.Running.{tables}
 pub use denote.Builtin.{RefOf, usize}

@@ -3,5 +3,7 @@ pub mod Agreement
 pub mod Breaks
 pub mod PublicLaws
 mod KnownRows
+pub mod KnownLemmas
+pub mod WrittenLemmas
 pub mod Batches
 pub mod FieldlessStructs

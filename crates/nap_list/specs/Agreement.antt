@@ -1,7 +1,5 @@
 use Rattle.std.specs.Prelude.{◌≡◌, ⊤, Option, Some, None, IfSome}
 use Rattle.nap_list.specs.Types.{Attributes, Base, Colour, Drawing, Entry, OpenDefinition, State}
-use Rattle.nap_list.specs.declared.attribute.Base.TheVariants as bases
-use Rattle.nap_list.specs.declared.attribute.Colour.TheVariants as colours
 use Rattle.nap_list.specs.Entry.{attributes, IsCode, WellMade}
 use Rattle.nap_list.specs.State.{PenFits, TextureFits, MayCome, Fits, base_after, after}
 
@@ -10,18 +8,18 @@ use Rattle.nap_list.specs.State.{PenFits, TextureFits, MayCome, Fits, base_after
 
 -- an own colour of mode 0 is the one that the entries left
 abbrev pub BaseAgrees : Base → Base → Type 0
-BaseAgrees (bases.Own origin) shown = shown ≡ bases.Own origin
-BaseAgrees (bases.Direct grb) shown = ⊤
+BaseAgrees (Base.Own origin) shown = shown ≡ Base.Own origin
+BaseAgrees (Base.Direct grb) shown = ⊤
 
 -- a colour selected by a reset is the one that the entries left
 abbrev pub ColourAgrees : Colour → Colour → Type 0
-ColourAgrees (colours.ByReset preset) shown = shown ≡ colours.ByReset preset
+ColourAgrees (Colour.ByReset preset) shown = shown ≡ Colour.ByReset preset
 ColourAgrees _ shown = ⊤
 
 -- a colour of mode 0 is the base
 abbrev pub ModeZeroIsBase : Base → Colour → Type 0
-ModeZeroIsBase base (colours.Own origin) = base ≡ bases.Own origin
-ModeZeroIsBase base (colours.Direct grb) = base ≡ bases.Direct grb
+ModeZeroIsBase base (Colour.Own origin) = base ≡ Base.Own origin
+ModeZeroIsBase base (Colour.Direct grb) = base ≡ Base.Direct grb
 ModeZeroIsBase base _ = ⊤
 
 -- the attributes agree with those that the entries left

@@ -1,11 +1,8 @@
 use Rattle.std.proofs.Common.{ℕ, zero, suc, ◌≡◌, List, [], ◌∷◌, map, take, drop, length, refl, sym, ap}
 use Rattle.std.proofs.lemmas.List.{length-map}
-use Rattle.std.specs.List.{drop-map}
-use Rattle.nap_values.specs.Coordinates.{Coordinates}
-use Rattle.nap_codes.specs.declared.code_set.CharSet.{CharSet}
+use Rattle.nap_list.specs.Names.{CharSet, Coordinates, drop-map}
 use Rattle.nap_list.specs.Types.{Batch, Drawing, Hand}
 use Rattle.nap_list.specs.declared.attribute.Pen.TheVariants.{After}
-use Rattle.nap_list.specs.declared.batch.Batch.TheVariants as batches
 use Rattle.nap_list.specs.State.{hand_of}
 use Rattle.nap_list.specs.Batches.{point_entry, line_entry, polyline_entries, text_entries_in, text_entry, batch_entries, last_point}
 
@@ -23,13 +20,13 @@ text_count set hand (c ∷ cs) = ap suc (text_count set (record hand { pen = Aft
 
 -- a batch has as many entries as points or codes
 
-pub sized_points : (b : Batch) (points : _) (d : _) → b ≡ batches.Points points d → length (batch_entries b) ≡ length points.now
+pub sized_points : (b : Batch) (points : _) (d : _) → b ≡ Batch.Points points d → length (batch_entries b) ≡ length points.now
 sized_points b points d is = rw is (length-map points.now (point_entry d.now))
 
-pub sized_lines : (b : Batch) (from : _) (points : _) (d : _) → b ≡ batches.Lines from points d → length (batch_entries b) ≡ length points.now
+pub sized_lines : (b : Batch) (from : _) (points : _) (d : _) → b ≡ Batch.Lines from points d → length (batch_entries b) ≡ length points.now
 sized_lines b from points d is = rw is (lines_count d.now from points.now)
 
-pub sized_text : (b : Batch) (set : _) (codes : _) (pen : _) (d : _) → b ≡ batches.Text set codes pen d → length (batch_entries b) ≡ length codes.now
+pub sized_text : (b : Batch) (set : _) (codes : _) (pen : _) (d : _) → b ≡ Batch.Text set codes pen d → length (batch_entries b) ≡ length codes.now
 sized_text b set codes pen d is = rw is (text_count set (record (hand_of d.now) { pen = pen }) codes.now)
 
 pub points_prefix : (d : Drawing) (points : List Coordinates) (n : ℕ) → map (point_entry d) (take n points) ≡ take n (map (point_entry d) points)

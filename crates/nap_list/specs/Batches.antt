@@ -1,12 +1,7 @@
-use Rattle.std.specs.Prelude.{ℕ, List, [], ◌∷◌, map, Option, Some, None, ◌≡◌, ⊤}
-use Rattle.nap_values.specs.Coordinates.{Coordinates}
-use Rattle.nap_codes.specs.declared.code_set.CharSet.{CharSet}
-use Rattle.nap_codes.specs.declared.control.TextStep.{TextStep}
-use Rattle.nap_codes.specs.Tables.{format_effector}
+use Rattle.std.specs.Prelude.{List, None, Option, Some, [], map, ℕ, ⊤, ◌∷◌, ◌≡◌}
+use Rattle.nap_list.specs.Names.{CharSet, Coordinates, TextStep, format_effector}
 use Rattle.nap_list.specs.Types.{Batch, Drawing, Entry, Hand, LastChar, Pen, State}
 use Rattle.nap_list.specs.declared.attribute.Pen.TheVariants.{After}
-use Rattle.nap_list.specs.declared.batch.Batch.TheVariants as batches
-use Rattle.nap_list.specs.declared.entry.Entry.TheVariants as entries
 use Rattle.nap_list.specs.Agreement.{AreCurrent}
 use Rattle.nap_list.specs.Entry.{IsCode, attributes, point_attributes, ink_attributes, hand_attributes}
 use Rattle.nap_list.specs.State.{after, start, start_drawing, last_after, with_pen, ink_of, hand_of}
@@ -15,16 +10,16 @@ use Rattle.nap_list.specs.State.{after, start, start_drawing, last_after, with_p
 
 -- a point with the current attributes
 abbrev pub point_entry : Drawing → Coordinates → Entry
-point_entry d at = entries.Point at d.pel d.colour
+point_entry d at = Entry.Point at d.pel d.colour
 
 -- a line with the current attributes
 abbrev pub line_entry : Drawing → Coordinates → Coordinates → Entry
-line_entry d from to = entries.Line from to (ink_of d)
+line_entry d from to = Entry.Line from to (ink_of d)
 
 -- the entry of a byte of a text with these attributes: a move for a format effector, else a character of the set
 abbrev pub text_entry_as : Option TextStep → CharSet → Hand → ℕ → Entry
-text_entry_as (Some step) set hand code = entries.TextMove step hand
-text_entry_as None set hand code = entries.Char set code hand
+text_entry_as (Some step) set hand code = Entry.TextMove step hand
+text_entry_as None set hand code = Entry.Char set code hand
 
 abbrev pub text_entry : CharSet → Hand → ℕ → Entry
 text_entry set hand code = text_entry_as (format_effector code) set hand code
@@ -44,7 +39,7 @@ last_char_of_text set code = last_after (text_entry set (hand_of start_drawing) 
 -- lines with the current attributes, from the first point to the next, and from each point to the next
 unfoldable pub polyline_entries : Drawing → Coordinates → List Coordinates → List Entry
 polyline_entries d p [] = []
-polyline_entries d p (q ∷ qs) = entries.Line p q (ink_of d) ∷ polyline_entries d q qs
+polyline_entries d p (q ∷ qs) = Entry.Line p q (ink_of d) ∷ polyline_entries d q qs
 
 -- the entries of a text: the first with these attributes, each further one with the pen that the one before it leaves
 unfoldable pub text_entries_in : CharSet → Hand → List ℕ → List Entry
@@ -57,9 +52,9 @@ text_entries d pen set codes = text_entries_in set (record (hand_of d) { pen = p
 
 -- the entries of a batch, in order
 abbrev pub batch_entries : Batch → List Entry
-batch_entries (batches.Points points drawing) = map (point_entry drawing.now) points.now
-batch_entries (batches.Lines from points drawing) = polyline_entries drawing.now from points.now
-batch_entries (batches.Text set codes pen drawing) = text_entries drawing.now pen set codes.now
+batch_entries (Batch.Points points drawing) = map (point_entry drawing.now) points.now
+batch_entries (Batch.Lines from points drawing) = polyline_entries drawing.now from points.now
+batch_entries (Batch.Text set codes pen drawing) = text_entries drawing.now pen set codes.now
 
 -- the last of these points, or the first argument if there are none
 unfoldable pub last_point : Coordinates → List Coordinates → Coordinates
@@ -68,9 +63,9 @@ last_point p (q ∷ qs) = last_point q qs
 
 -- the attributes of the first entry of a batch are current
 abbrev pub FirstIsCurrent : Batch → Drawing → Type 0
-FirstIsCurrent (batches.Points points drawing) d = AreCurrent (point_attributes drawing.now.pel drawing.now.colour) d
-FirstIsCurrent (batches.Lines from points drawing) d = AreCurrent (ink_attributes (ink_of drawing.now)) d
-FirstIsCurrent (batches.Text set codes pen drawing) d = AreCurrent (hand_attributes (record (hand_of drawing.now) { pen = pen })) d
+FirstIsCurrent (Batch.Points points drawing) d = AreCurrent (point_attributes drawing.now.pel drawing.now.colour) d
+FirstIsCurrent (Batch.Lines from points drawing) d = AreCurrent (ink_attributes (ink_of drawing.now)) d
+FirstIsCurrent (Batch.Text set codes pen drawing) d = AreCurrent (hand_attributes (record (hand_of drawing.now) { pen = pen })) d
 
 -- the attributes of each entry are current when it comes
 unfoldable pub EachIsCurrent : State → List Entry → Type 0

@@ -1,9 +1,7 @@
-use Rattle.std.specs.Prelude.{ℕ, ◌≤◌, length, Some, None, ⊤}
-use Rattle.nap_values.specs.Coordinates.{Displacement}
-use Rattle.nap_codes.specs.declared.control.TextStep.{TextStep}
+use Rattle.std.specs.Prelude.{None, Some, length, ℕ, ⊤, ◌≤◌}
+use Rattle.nap_list.specs.Names.{Displacement, TextStep}
 use Rattle.nap_codes.specs.declared.control.TextStep.TheVariants.{Aps}
 use Rattle.nap_list.specs.Types.{Attributes, Colour, Entry, Hand, Ink, Pen}
-use Rattle.nap_list.specs.declared.entry.Entry.TheVariants as entries
 use Rattle.nap_list.specs.Limits.{points_limit}
 
 -- no attributes
@@ -32,20 +30,20 @@ pen_only pen = record { pen = Some pen; pel = None; colour = None; texture = Non
 
 -- the attributes that an entry holds
 abbrev pub attributes : Entry → Attributes
-attributes (entries.Point at pel colour) = point_attributes pel colour
-attributes (entries.Line from to ink) = ink_attributes ink
-attributes (entries.Arc filled points ink) = ink_attributes ink
-attributes (entries.Rect filled from to ink) = ink_attributes ink
-attributes (entries.Poly filled points ink) = ink_attributes ink
-attributes (entries.Char set code hand) = hand_attributes hand
-attributes (entries.TextMove step hand) = hand_attributes hand
-attributes (entries.ToEol hand) = hand_attributes hand
-attributes (entries.Blink addr on off delay colour) = colour_only colour
-attributes (entries.BlinkEnd colour) = colour_only colour
-attributes (entries.BlinkMark on colour) = colour_only colour
-attributes (entries.Field area pen) = pen_only pen
-attributes (entries.Reset first second pen) = pen_only pen
-attributes (entries.Clear pen) = pen_only pen
+attributes (Entry.Point at pel colour) = point_attributes pel colour
+attributes (Entry.Line from to ink) = ink_attributes ink
+attributes (Entry.Arc filled points ink) = ink_attributes ink
+attributes (Entry.Rect filled from to ink) = ink_attributes ink
+attributes (Entry.Poly filled points ink) = ink_attributes ink
+attributes (Entry.Char set code hand) = hand_attributes hand
+attributes (Entry.TextMove step hand) = hand_attributes hand
+attributes (Entry.ToEol hand) = hand_attributes hand
+attributes (Entry.Blink addr on off delay colour) = colour_only colour
+attributes (Entry.BlinkEnd colour) = colour_only colour
+attributes (Entry.BlinkMark on colour) = colour_only colour
+attributes (Entry.Field area pen) = pen_only pen
+attributes (Entry.Reset first second pen) = pen_only pen
+attributes (Entry.Clear pen) = pen_only pen
 attributes _ = no_attributes
 
 -- the code of a character, from `20` to `7F`
@@ -59,9 +57,9 @@ StepMade _ = ⊤
 
 -- the number of points and the codes of an entry are in range
 abbrev pub WellMade : Entry → Type 0
-WellMade (entries.Arc filled points ink) = (3 ≤ length points) × (length points ≤ points_limit)
-WellMade (entries.Poly filled points ink) = (2 ≤ length points) × (length points ≤ points_limit)
-WellMade (entries.Char set code hand) = IsCode code
-WellMade (entries.TextMove step hand) = StepMade step
-WellMade (entries.GlyphStart code) = IsCode code
+WellMade (Entry.Arc filled points ink) = (3 ≤ length points) × (length points ≤ points_limit)
+WellMade (Entry.Poly filled points ink) = (2 ≤ length points) × (length points ≤ points_limit)
+WellMade (Entry.Char set code hand) = IsCode code
+WellMade (Entry.TextMove step hand) = StepMade step
+WellMade (Entry.GlyphStart code) = IsCode code
 WellMade _ = ⊤

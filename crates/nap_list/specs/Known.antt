@@ -1,7 +1,5 @@
-use Rattle.std.specs.Prelude.{ℕ, ◌/◌, ◌%◌, ◌==◌, not, nat_eq, Bool, List, [], ◌∷◌, filter, take, if◌then◌else◌}
-use Rattle.std.specs.List.{list_any}
-use Rattle.std.specs.Ordering.{on, eq_of_both}
-use Rattle.nap_values.specs.Colours.{Components}
+use Rattle.std.specs.Prelude.{Bool, List, [], filter, if◌then◌else◌, nat_eq, not, take, ℕ, ◌%◌, ◌/◌, ◌==◌, ◌∷◌}
+use Rattle.nap_list.specs.Names.{Components, eq_of_both, list_any, on}
 use Rattle.nap_list.specs.declared.known.MapColour.{MapColour}
 
 -- The known colours of the colour map, the last set first.

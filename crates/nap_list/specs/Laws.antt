@@ -1,5 +1,5 @@
-use Rattle.std.specs.Prelude.{ℕ, ◌≡◌, ◌↔◌, List, [], ◌∷◌, ◌++◌}
-use Rattle.nap_codes.specs.declared.code_set.CharSet.{CharSet}
+use Rattle.std.specs.Prelude.{List, [], ℕ, ◌++◌, ◌↔◌, ◌∷◌, ◌≡◌}
+use Rattle.nap_list.specs.Names.{CharSet}
 use Rattle.nap_list.specs.Types.{Attributes, Batch, Drawing, Entry, Hand, State}
 use Rattle.nap_list.specs.Entry.{WellMade}
 use Rattle.nap_list.specs.Batches.{EachIsCurrent, IsTextByte, batch_entries, text_entries_in, text_entry}

@@ -19,3 +19,4 @@ pub mod PuttingLaws
 pub mod Shapes
 pub mod SinkModels
 pub mod Walks
+pub mod Names

@@ -1,10 +1,7 @@
-use Rattle.std.specs.Prelude.{Option, Some, None, IfSome}
+use Rattle.std.specs.Prelude.{IfSome, None, Option, Some}
+use Rattle.nap_list.specs.Names.{Displacement}
 use Rattle.std.proofs.Props.{props}
-use Rattle.nap_values.specs.Coordinates.{Displacement}
 use Rattle.nap_list.specs.Types.{Base, Colour, Drawing, LastChar, OpenDefinition, Pen, State, Texture}
-use Rattle.nap_list.specs.declared.attribute.Base.TheVariants as bases
-use Rattle.nap_list.specs.declared.attribute.Colour.TheVariants as colours
-use Rattle.nap_list.specs.declared.attribute.Pen.TheVariants as pens
 use Rattle.nap_list.specs.Entry.{IsCode}
 use Rattle.nap_list.specs.State.{PenFits, MaskFits, TextureFits}
 use Rattle.nap_list.specs.Agreement.{BaseAgrees, ColourAgrees, ModeZeroIsBase, Agrees, DefinitionsAgree, StatesAgree}
@@ -13,9 +10,9 @@ use Rattle.nap_list.specs.Agreement.{BaseAgrees, ColourAgrees, ModeZeroIsBase, A
 
 pub PenFits-prop : (pen : Pen) (attributes : Option Pen) → IsProp (PenFits pen attributes)
 PenFits-prop pen None = hlevel props
-PenFits-prop pen (Some pens.Start) = hlevel props
-PenFits-prop pen (Some pens.After) = hlevel props
-PenFits-prop pen (Some (pens.At point)) = hlevel props
+PenFits-prop pen (Some Pen.Start) = hlevel props
+PenFits-prop pen (Some Pen.After) = hlevel props
+PenFits-prop pen (Some (Pen.At point)) = hlevel props
 
 pub MaskFits-prop : (texture : Texture) (mask : Option Displacement) → IsProp (MaskFits texture mask)
 MaskFits-prop texture None = hlevel props
@@ -26,22 +23,22 @@ TextureFits-prop texture None = hlevel props
 TextureFits-prop texture (Some wanted) = MaskFits-prop texture wanted.mask
 
 pub BaseAgrees-prop : (base shown : Base) → IsProp (BaseAgrees base shown)
-BaseAgrees-prop (bases.Own origin) shown = hlevel props
-BaseAgrees-prop (bases.Direct grb) shown = hlevel props
+BaseAgrees-prop (Base.Own origin) shown = hlevel props
+BaseAgrees-prop (Base.Direct grb) shown = hlevel props
 
 pub ColourAgrees-prop : (colour shown : Colour) → IsProp (ColourAgrees colour shown)
-ColourAgrees-prop (colours.ByReset preset) shown = hlevel props
-ColourAgrees-prop (colours.Own origin) shown = hlevel props
-ColourAgrees-prop (colours.Direct grb) shown = hlevel props
-ColourAgrees-prop (colours.Front addr) shown = hlevel props
-ColourAgrees-prop (colours.Pair front back) shown = hlevel props
+ColourAgrees-prop (Colour.ByReset preset) shown = hlevel props
+ColourAgrees-prop (Colour.Own origin) shown = hlevel props
+ColourAgrees-prop (Colour.Direct grb) shown = hlevel props
+ColourAgrees-prop (Colour.Front addr) shown = hlevel props
+ColourAgrees-prop (Colour.Pair front back) shown = hlevel props
 
 pub ModeZeroIsBase-prop : (base : Base) (colour : Colour) → IsProp (ModeZeroIsBase base colour)
-ModeZeroIsBase-prop base (colours.Own origin) = hlevel props
-ModeZeroIsBase-prop base (colours.Direct grb) = hlevel props
-ModeZeroIsBase-prop base (colours.ByReset preset) = hlevel props
-ModeZeroIsBase-prop base (colours.Front addr) = hlevel props
-ModeZeroIsBase-prop base (colours.Pair front back) = hlevel props
+ModeZeroIsBase-prop base (Colour.Own origin) = hlevel props
+ModeZeroIsBase-prop base (Colour.Direct grb) = hlevel props
+ModeZeroIsBase-prop base (Colour.ByReset preset) = hlevel props
+ModeZeroIsBase-prop base (Colour.Front addr) = hlevel props
+ModeZeroIsBase-prop base (Colour.Pair front back) = hlevel props
 
 pub Agrees-prop : (d shown : Drawing) → IsProp (Agrees d shown)
 Agrees-prop d shown = hlevel (

@@ -1,6 +1,5 @@
 use Rattle.std.specs.Prelude.{ℕ, ◌≡◌, ◌<◌, ◌≤◌, ◌⊎◌, ◌++◌, Bool, true, false, List, [], ◌∷◌, length, Result, Ok, Err, IsErrOf}
 use Rattle.nap_list.specs.Types.{Entry, SinkFault, State}
-use Rattle.nap_list.specs.declared.sink.SinkFault.TheVariants as faults
 use Rattle.nap_list.specs.declared.sink.BatchFault.{BatchFault}
 use Rattle.nap_list.specs.State.{walk}
 
@@ -55,15 +54,15 @@ pub record BreaksAfter {S : Type 0} (broke : S → List Entry → Entry → S �
 
 -- where the putting of a list halts; a sink whose device had failed takes nothing
 abbrev pub HaltsAfter : {S : Type 0} → SinkModel S → List Entry → S → S → ℕ → SinkFault → Type 0
-HaltsAfter h list s t n faults.Memory = StopsAfter h s list n t
-HaltsAfter h list s t n faults.Write = ((h.failed s ≡ true) × (t ≡ s) × (n ≡ 0)) ⊎ BreaksAfter h.broke s list n t
+HaltsAfter h list s t n SinkFault.Memory = StopsAfter h s list n t
+HaltsAfter h list s t n SinkFault.Write = ((h.failed s ≡ true) × (t ≡ s) × (n ≡ 0)) ⊎ BreaksAfter h.broke s list n t
 
 -- what the fault says about the device: with lack of memory it hasn't failed; a sink whose device had failed takes
 -- nothing
 pub record FaultMatchesDevice {S : Type 0} (h : SinkModel S) (s t : S) (n : ℕ) (fault : SinkFault) : Type 0 where
-  pub write : fault ≡ faults.Write → h.failed t ≡ true
-  pub memory : fault ≡ faults.Memory → h.failed t ≡ false
-  pub none : h.failed s ≡ true → (fault ≡ faults.Write) × (t ≡ s) × (n ≡ 0)
+  pub write : fault ≡ SinkFault.Write → h.failed t ≡ true
+  pub memory : fault ≡ SinkFault.Memory → h.failed t ≡ false
+  pub none : h.failed s ≡ true → (fault ≡ SinkFault.Write) × (t ≡ s) × (n ≡ 0)
 
 -- the sink took all of the list; if its device had failed, the list is empty
 pub record TakesAll {S : Type 0} (h : SinkModel S) (list : List Entry) (s t : S) : Type 0 where
@@ -80,7 +79,7 @@ Put h list s t (Err stop) = HaltsAfter h list s t stop.taken stop.fault × Fault
 -- the result for a sink that took a number of the entries of a list of that length: lack of memory unless it took all
 abbrev pub UnlessAll : ℕ → ℕ → Result (Unit {0}) BatchFault → Type 0
 UnlessAll taken count (Ok _) = count ≤ taken
-UnlessAll taken count (Err stop) = (stop ≡ record { taken = taken; fault = faults.Memory }) × (taken < count)
+UnlessAll taken count (Err stop) = (stop ≡ record { taken = taken; fault = SinkFault.Memory }) × (taken < count)
 
 -- the result of putting a list, where the error doesn't have the number of entries taken
 abbrev pub PutSome : {S A : Type 0} → SinkModel S → List Entry → S → S → Result A SinkFault → Type 0
@@ -89,13 +88,13 @@ PutSome h list s t (Err fault) = (n : ℕ) × HaltsAfter h list s t n fault × F
 
 -- What a sink answers for an entry that it doesn't take.
 pub record NotTaken {S : Type 0} (h : SinkModel S) (s t : S) (x : Entry) (fault : SinkFault) : Type 0 where
-  pub memory : IsErrOf {T = Unit {0}} (Err fault) faults.Memory → t ≡ s
-  pub wants : IsErrOf {T = Unit {0}} (Err fault) faults.Memory → h.wants s (x ∷ [])
-  pub refuses : h.failed s ≡ true → IsErrOf {T = Unit {0}} (Err fault) faults.Write
-  pub write : IsErrOf {T = Unit {0}} (Err fault) faults.Write → h.failed t ≡ true
-  pub only_write : h.failed t ≡ true → IsErrOf {T = Unit {0}} (Err fault) faults.Write
-  pub broke : IsErrOf {T = Unit {0}} (Err fault) faults.Write → h.failed s ≡ false → h.broke s [] x t
-  pub still : IsErrOf {T = Unit {0}} (Err fault) faults.Write → h.failed s ≡ true → t ≡ s
+  pub memory : IsErrOf {T = Unit {0}} (Err fault) SinkFault.Memory → t ≡ s
+  pub wants : IsErrOf {T = Unit {0}} (Err fault) SinkFault.Memory → h.wants s (x ∷ [])
+  pub refuses : h.failed s ≡ true → IsErrOf {T = Unit {0}} (Err fault) SinkFault.Write
+  pub write : IsErrOf {T = Unit {0}} (Err fault) SinkFault.Write → h.failed t ≡ true
+  pub only_write : h.failed t ≡ true → IsErrOf {T = Unit {0}} (Err fault) SinkFault.Write
+  pub broke : IsErrOf {T = Unit {0}} (Err fault) SinkFault.Write → h.failed s ≡ false → h.broke s [] x t
+  pub still : IsErrOf {T = Unit {0}} (Err fault) SinkFault.Write → h.failed s ≡ true → t ≡ s
 
 -- The laws that every sink keeps.
 

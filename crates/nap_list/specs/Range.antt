@@ -1,17 +1,6 @@
-use Rattle.std.specs.Prelude.{ℕ, ◌<◌, List, All, IfSome, ⊤}
-use Rattle.nap_values.specs.Coordinates.{IsInSquare, IsInRange}
-use Rattle.nap_values.specs.Colours.{HasSixteenBitParts}
-use Rattle.nap_values.specs.Laws.{IsWord}
-use Rattle.nap_codes.specs.declared.control.TextStep.{TextStep}
-use Rattle.nap_codes.specs.declared.control.TextStep.TheVariants as steps
+use Rattle.std.specs.Prelude.{All, IfSome, List, ℕ, ⊤, ◌<◌}
+use Rattle.nap_list.specs.Names.{HasSixteenBitParts, IsInRange, IsInSquare, IsWord, TextStep}
 use Rattle.nap_list.specs.Types.{Area, Base, CharSize, Colour, Definition, Drawing, Entry, Hand, Ink, MapColour, OpenDefinition, Pen, State, TextLook, Texture}
-use Rattle.nap_list.specs.declared.attribute.Pen.TheVariants as pens
-use Rattle.nap_list.specs.declared.attribute.Base.TheVariants as bases
-use Rattle.nap_list.specs.declared.attribute.Colour.TheVariants as colours
-use Rattle.nap_list.specs.declared.attribute.CharSize.TheVariants as sizes
-use Rattle.nap_list.specs.declared.attribute.Area.TheVariants as areas
-use Rattle.nap_list.specs.declared.entry.Entry.TheVariants as entries
-use Rattle.nap_list.specs.declared.state.Definition.TheVariants as definitions
 
 -- The parts of entries and states are in the ranges of their types. This holds for all values of the program; the types
 -- of the definitions hold any numbers and don't say so.
@@ -25,17 +14,17 @@ abbrev pub IsByte : ℕ → Type 0
 IsByte number = number < 256
 
 abbrev pub PenInRange : Pen → Type 0
-PenInRange (pens.At point) = IsInSquare point
+PenInRange (Pen.At point) = IsInSquare point
 PenInRange _ = ⊤
 
 abbrev pub BaseInRange : Base → Type 0
-BaseInRange (bases.Direct grb) = HasSixteenBitParts grb
+BaseInRange (Base.Direct grb) = HasSixteenBitParts grb
 BaseInRange _ = ⊤
 
 abbrev pub ColourInRange : Colour → Type 0
-ColourInRange (colours.Direct grb) = HasSixteenBitParts grb
-ColourInRange (colours.Front address) = IsAddress address
-ColourInRange (colours.Pair front back) = IsAddress front × IsAddress back
+ColourInRange (Colour.Direct grb) = HasSixteenBitParts grb
+ColourInRange (Colour.Front address) = IsAddress address
+ColourInRange (Colour.Pair front back) = IsAddress front × IsAddress back
 ColourInRange _ = ⊤
 
 pub record TextureInRange (t : Texture) : Type 0 where
@@ -43,7 +32,7 @@ pub record TextureInRange (t : Texture) : Type 0 where
   pub mask : IfSome t.mask IsInRange
 
 abbrev pub SizeInRange : CharSize → Type 0
-SizeInRange (sizes.Given size) = IsInRange size
+SizeInRange (CharSize.Given size) = IsInRange size
 SizeInRange _ = ⊤
 
 pub record TextInRange (t : TextLook) : Type 0 where
@@ -62,32 +51,32 @@ pub record HandInRange (hand : Hand) : Type 0 where
   pub text : TextInRange hand.text
 
 abbrev pub AreaInRange : Area → Type 0
-AreaInRange (areas.Part from to) = IsInSquare from × IsInSquare to
+AreaInRange (Area.Part from to) = IsInSquare from × IsInSquare to
 AreaInRange _ = ⊤
 
 abbrev pub StepInRange : TextStep → Type 0
-StepInRange (steps.Aps a b) = IsByte a × IsByte b
+StepInRange (TextStep.Aps a b) = IsByte a × IsByte b
 StepInRange _ = ⊤
 
 -- The parts of an entry are in the ranges of their types.
 abbrev pub InRange : Entry → Type 0
-InRange (entries.Point at pel colour) = IsInSquare at × IsInRange pel × ColourInRange colour
-InRange (entries.Line from to ink) = IsInSquare from × IsInSquare to × InkInRange ink
-InRange (entries.Arc filled points ink) = All IsInSquare points × InkInRange ink
-InRange (entries.Rect filled from to ink) = IsInSquare from × IsInSquare to × InkInRange ink
-InRange (entries.Poly filled points ink) = All IsInSquare points × InkInRange ink
-InRange (entries.Char set code hand) = IsByte code × HandInRange hand
-InRange (entries.TextMove step hand) = StepInRange step × HandInRange hand
-InRange (entries.ToEol hand) = HandInRange hand
-InRange (entries.Map address grb) = IsAddress address × HasSixteenBitParts grb
-InRange (entries.Blink address on off delay colour) = IsAddress address × IsWord on × IsWord off × IsWord delay × ColourInRange colour
-InRange (entries.BlinkEnd colour) = ColourInRange colour
-InRange (entries.BlinkMark on colour) = ColourInRange colour
-InRange (entries.Wait word) = IsWord word
-InRange (entries.Field area pen) = AreaInRange area × PenInRange pen
-InRange (entries.Reset first second pen) = IsWord first × IsWord second × PenInRange pen
-InRange (entries.Clear pen) = PenInRange pen
-InRange (entries.GlyphStart code) = IsByte code
+InRange (Entry.Point at pel colour) = IsInSquare at × IsInRange pel × ColourInRange colour
+InRange (Entry.Line from to ink) = IsInSquare from × IsInSquare to × InkInRange ink
+InRange (Entry.Arc filled points ink) = All IsInSquare points × InkInRange ink
+InRange (Entry.Rect filled from to ink) = IsInSquare from × IsInSquare to × InkInRange ink
+InRange (Entry.Poly filled points ink) = All IsInSquare points × InkInRange ink
+InRange (Entry.Char set code hand) = IsByte code × HandInRange hand
+InRange (Entry.TextMove step hand) = StepInRange step × HandInRange hand
+InRange (Entry.ToEol hand) = HandInRange hand
+InRange (Entry.Map address grb) = IsAddress address × HasSixteenBitParts grb
+InRange (Entry.Blink address on off delay colour) = IsAddress address × IsWord on × IsWord off × IsWord delay × ColourInRange colour
+InRange (Entry.BlinkEnd colour) = ColourInRange colour
+InRange (Entry.BlinkMark on colour) = ColourInRange colour
+InRange (Entry.Wait word) = IsWord word
+InRange (Entry.Field area pen) = AreaInRange area × PenInRange pen
+InRange (Entry.Reset first second pen) = IsWord first × IsWord second × PenInRange pen
+InRange (Entry.Clear pen) = PenInRange pen
+InRange (Entry.GlyphStart code) = IsByte code
 InRange _ = ⊤
 
 -- The parts of each entry are in the ranges of their types.
@@ -104,7 +93,7 @@ pub record DrawingInRange (d : Drawing) : Type 0 where
   pub text : TextInRange d.text
 
 abbrev pub DefinitionInRange : Definition → Type 0
-DefinitionInRange (definitions.Glyph code) = IsByte code
+DefinitionInRange (Definition.Glyph code) = IsByte code
 DefinitionInRange _ = ⊤
 
 pub record OpenedInRange (opened : OpenDefinition) : Type 0 where

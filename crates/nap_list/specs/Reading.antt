@@ -1,6 +1,6 @@
-use Rattle.std.specs.Prelude.{ℕ, ◌≡◌, ◌⊎◌, ◌+◌, ◌-◌, ◌<◌, ◌≤◌, Bool, true, List, Option, length}
-use Rattle.std.specs.Io.KnownBytes.{IsAtEnd}
-use Rattle.nap_list.specs.declared.device.inlet.Inlet as inlet
+use Rattle.std.specs.Prelude.{Bool, List, Option, length, true, ℕ, ◌+◌, ◌-◌, ◌<◌, ◌≡◌, ◌≤◌, ◌⊎◌}
+use Rattle.nap_list.specs.Names.{IsAtEnd}
+use Rattle.nap_list.specs.declared.device.Inlet as inlet
 use Rattle.nap_list.specs.Limits.{reads_limit}
 
 -- A series of reads, as contracts see it: the bytes left, whether a read had failed before and has failed now, and the

@@ -1,8 +1,6 @@
-use Rattle.std.specs.Prelude.{◌-◌, length, slice_get, unwrap_or, Bool, List, [], ◌∷◌}
-use Rattle.nap_values.specs.Coordinates.{Coordinates}
+use Rattle.std.specs.Prelude.{Bool, List, [], length, slice_get, unwrap_or, ◌-◌, ◌∷◌}
+use Rattle.nap_list.specs.Names.{Coordinates}
 use Rattle.nap_list.specs.Types.{Drawing, Entry, Ink, Shape, ShapeKind}
-use Rattle.nap_list.specs.declared.entry.Entry.TheVariants as entries
-use Rattle.nap_list.specs.declared.shape.ShapeKind.TheVariants as kinds
 use Rattle.nap_list.specs.State.{ink_of}
 
 -- Arcs and polygons, and the pen after them.
@@ -14,13 +12,13 @@ circle_closed points = points
 
 -- the points of an arc or polygon through these points
 abbrev pub outline : ShapeKind → List Coordinates → List Coordinates
-outline kinds.Arc points = circle_closed points
-outline kinds.Poly points = points
+outline ShapeKind.Arc points = circle_closed points
+outline ShapeKind.Poly points = points
 
 -- an arc or polygon through these points, with these attributes
 abbrev pub shape_entry : ShapeKind → Bool → List Coordinates → Ink → Entry
-shape_entry kinds.Arc filled points ink = entries.Arc filled points ink
-shape_entry kinds.Poly filled points ink = entries.Poly filled points ink
+shape_entry ShapeKind.Arc filled points ink = Entry.Arc filled points ink
+shape_entry ShapeKind.Poly filled points ink = Entry.Poly filled points ink
 
 -- an arc or polygon through these points, with the current attributes
 abbrev pub shape_on : ShapeKind → Bool → Drawing → List Coordinates → Entry
@@ -28,8 +26,8 @@ shape_on kind filled d points = shape_entry kind filled points (ink_of d)
 
 -- the pen after an arc or polygon through these points, of which this is the first
 abbrev pub shape_end : ShapeKind → Coordinates → List Coordinates → Coordinates
-shape_end kinds.Arc p points = unwrap_or (slice_get points (length points - 1)) p
-shape_end kinds.Poly p points = p
+shape_end ShapeKind.Arc p points = unwrap_or (slice_get points (length points - 1)) p
+shape_end ShapeKind.Poly p points = p
 
 -- the points of a shape, its start included
 abbrev pub shape_points : Shape → List Coordinates

@@ -1,15 +1,11 @@
-use Rattle.std.specs.Prelude.{ℕ, ◌≡◌, ◌/◌, ◌%◌, ◌==◌, ◌⊎◌, ◌++◌, List, [], ◌∷◌, pos, length, Option, Some, None, IsSome, ◌-◌, slice_get, unwrap_or, false, ⊤, if◌then◌else◌}
-use Rattle.nap_values.specs.Coordinates.{Coordinates, Displacement}
+use Rattle.std.specs.Prelude.{IsSome, List, None, Option, Some, [], false, if◌then◌else◌, length, pos, slice_get, unwrap_or, ℕ, ⊤, ◌%◌, ◌++◌, ◌-◌, ◌/◌, ◌==◌, ◌∷◌, ◌≡◌, ◌⊎◌}
+use Rattle.nap_list.specs.Names.{Coordinates, Displacement}
 use Rattle.nap_codes.specs.declared.control.Size.TheVariants.{Normal}
-use Rattle.nap_list.specs.declared.attribute.Origin.TheVariants as origins
-use Rattle.nap_list.specs.declared.attribute.Preset.TheVariants as presets
+use Rattle.nap_list.specs.declared.attribute.Origin.{Origin}
+use Rattle.nap_list.specs.declared.attribute.Preset.{Preset}
 use Rattle.nap_list.specs.Types.{Attributes, Base, Colour, Drawing, Entry, Hand, Ink, LastChar, MapColour, OpenDefinition, Pen, State, TextLook, Texture}
-use Rattle.nap_list.specs.declared.attribute.Pen.TheVariants as pens
-use Rattle.nap_list.specs.declared.attribute.Base.TheVariants as bases
-use Rattle.nap_list.specs.declared.attribute.Colour.TheVariants as colours
-use Rattle.nap_list.specs.declared.attribute.CharSize.TheVariants as sizes
-use Rattle.nap_list.specs.declared.entry.Entry.TheVariants as entries
-use Rattle.nap_list.specs.declared.state.Definition.TheVariants as definitions
+use Rattle.nap_list.specs.declared.attribute.CharSize.{CharSize}
+use Rattle.nap_list.specs.declared.state.Definition.{Definition}
 use Rattle.nap_list.specs.Entry.{attributes, WellMade}
 use Rattle.nap_list.specs.Known.{colour_code, is_known, with_known_colour, known_after_reset}
 
@@ -19,14 +15,14 @@ abbrev pub start_texture : Texture
 start_texture = record { word = 0; mask = None }
 
 abbrev pub start_text : TextLook
-start_text = record { first = 0; second = 0; size = sizes.Named Normal; reverse = false; underline = false; wrap = false; scroll = false }
+start_text = record { first = 0; second = 0; size = CharSize.Named Normal; reverse = false; underline = false; wrap = false; scroll = false }
 
 abbrev pub start_drawing : Drawing
 start_drawing = record {
-  pen = pens.Start;
+  pen = Pen.Start;
   pel = record { x = pos 0; y = pos 0 };
-  base = bases.Own origins.AtStart;
-  colour = colours.Own origins.AtStart;
+  base = Base.Own Origin.AtStart;
+  colour = Colour.Own Origin.AtStart;
   texture = start_texture;
   text = start_text;
 }
@@ -45,14 +41,14 @@ start = record { drawing = start_drawing; definition = None; last = None; known 
 
 -- the pen of an entry fits: one that isn't a point has to be current
 abbrev pub PenFits : Pen → Option Pen → Type 0
-PenFits pen (Some pens.Start) = pen ≡ pens.Start
-PenFits pen (Some pens.After) = pen ≡ pens.After
+PenFits pen (Some Pen.Start) = pen ≡ Pen.Start
+PenFits pen (Some Pen.After) = pen ≡ Pen.After
 PenFits _ _ = ⊤
 
 -- the colour of an entry fits: an own colour has to be the base, and one selected by a reset has to be current
 abbrev pub ColourFits : Drawing → Option Colour → Type 0
-ColourFits d (Some (colours.Own origin)) = d.base ≡ bases.Own origin
-ColourFits d (Some (colours.ByReset preset)) = d.colour ≡ colours.ByReset preset
+ColourFits d (Some (Colour.Own origin)) = d.base ≡ Base.Own origin
+ColourFits d (Some (Colour.ByReset preset)) = d.colour ≡ Colour.ByReset preset
 ColourFits _ _ = ⊤
 
 -- the mask of an entry fits: none has to be current
@@ -73,11 +69,11 @@ pub record AttributesFit (d : Drawing) (h : Attributes) : Type 0 where
 
 -- the entry is well made and comes where its kind may come
 abbrev pub MayCome : State → Entry → Type 0
-MayCome s (entries.ToEol hand) = IsSome s.last
-MayCome s (entries.GlyphStart code) = s.definition ≡ None
-MayCome s (entries.MaskStart mask) = s.definition ≡ None
-MayCome s entries.DefEnd = IsSome s.definition
-MayCome s (entries.Map a grb) = is_known a grb s.known ≡ false
+MayCome s (Entry.ToEol hand) = IsSome s.last
+MayCome s (Entry.GlyphStart code) = s.definition ≡ None
+MayCome s (Entry.MaskStart mask) = s.definition ≡ None
+MayCome s Entry.DefEnd = IsSome s.definition
+MayCome s (Entry.Map a grb) = is_known a grb s.known ≡ false
 MayCome s _ = ⊤
 
 -- the entry may come next
@@ -88,7 +84,7 @@ pub record Fits (s : State) (e : Entry) : Type 0 where
 
 -- the base after an entry: a direct colour replaces it
 abbrev pub base_after : Base → Option Colour → Base
-base_after base (Some (colours.Direct grb)) = bases.Direct grb
+base_after base (Some (Colour.Direct grb)) = Base.Direct grb
 base_after base _ = base
 
 -- the attributes after those of an entry were made current
@@ -110,7 +106,7 @@ with_pen pen d = record d { pen = pen }
 -- the pen at a point, if there is one
 abbrev pub with_pen_at : Option Coordinates → Drawing → Drawing
 with_pen_at None d = d
-with_pen_at (Some point) d = with_pen (pens.At point) d
+with_pen_at (Some point) d = with_pen (Pen.At point) d
 
 abbrev pub with_colour : Colour → Drawing → Drawing
 with_colour colour d = record d { colour = colour }
@@ -123,13 +119,13 @@ corner from to = record { x = to.x; y = from.y }
 -- and texture
 abbrev pub reset : ℕ → ℕ → Drawing → Drawing
 reset first second d = record {
-  pen = pens.After;
+  pen = Pen.After;
   pel = if first % 2 == 1 then start_drawing.pel else d.pel;
-  base = if colour_code first == 1 then bases.Own origins.AfterReset else d.base;
+  base = if colour_code first == 1 then Base.Own Origin.AfterReset else d.base;
   colour =
-      if colour_code first == 1 then colours.Own origins.AfterReset else
-      if colour_code first == 2 then colours.ByReset presets.Two else
-      if colour_code first == 3 then colours.ByReset presets.Three else d.colour;
+      if colour_code first == 1 then Colour.Own Origin.AfterReset else
+      if colour_code first == 2 then Colour.ByReset Preset.Two else
+      if colour_code first == 3 then Colour.ByReset Preset.Three else d.colour;
   texture = if second / 8 % 2 == 1 then start_texture else d.texture;
   text = if second % 2 == 1 then start_text else d.text;
 }
@@ -141,39 +137,39 @@ restored_drawing (Some opened) d = opened.saved
 
 -- the effect of an entry on the attributes
 abbrev pub effect_on_drawing : Option OpenDefinition → Drawing → Entry → Drawing
-effect_on_drawing o d (entries.Point at pel colour) = with_pen (pens.At at) d
-effect_on_drawing o d (entries.Line from to ink) = with_pen (pens.At to) d
-effect_on_drawing o d (entries.Arc filled points ink) = with_pen_at (slice_get points (length points - 1)) d
-effect_on_drawing o d (entries.Rect filled from to ink) = with_pen (pens.At (corner from to)) d
-effect_on_drawing o d (entries.Poly filled points ink) = with_pen_at (slice_get points 0) d
-effect_on_drawing o d (entries.Char set code hand) = with_pen pens.After d
-effect_on_drawing o d (entries.TextMove step hand) = with_pen pens.After d
-effect_on_drawing o d (entries.ToEol hand) = with_pen pens.After d
-effect_on_drawing o d (entries.Clear pen) = with_pen pens.After d
-effect_on_drawing o d (entries.Field area pen) = with_pen pens.After d
-effect_on_drawing o d (entries.Reset first second pen) = reset first second d
-effect_on_drawing o d (entries.Map addr grb) = with_colour (colours.Front addr) d
-effect_on_drawing o d (entries.GlyphStart code) = with_pen pens.Start d
-effect_on_drawing o d (entries.MaskStart mask) = with_pen pens.Start d
-effect_on_drawing o d entries.DefEnd = restored_drawing o d
+effect_on_drawing o d (Entry.Point at pel colour) = with_pen (Pen.At at) d
+effect_on_drawing o d (Entry.Line from to ink) = with_pen (Pen.At to) d
+effect_on_drawing o d (Entry.Arc filled points ink) = with_pen_at (slice_get points (length points - 1)) d
+effect_on_drawing o d (Entry.Rect filled from to ink) = with_pen (Pen.At (corner from to)) d
+effect_on_drawing o d (Entry.Poly filled points ink) = with_pen_at (slice_get points 0) d
+effect_on_drawing o d (Entry.Char set code hand) = with_pen Pen.After d
+effect_on_drawing o d (Entry.TextMove step hand) = with_pen Pen.After d
+effect_on_drawing o d (Entry.ToEol hand) = with_pen Pen.After d
+effect_on_drawing o d (Entry.Clear pen) = with_pen Pen.After d
+effect_on_drawing o d (Entry.Field area pen) = with_pen Pen.After d
+effect_on_drawing o d (Entry.Reset first second pen) = reset first second d
+effect_on_drawing o d (Entry.Map addr grb) = with_colour (Colour.Front addr) d
+effect_on_drawing o d (Entry.GlyphStart code) = with_pen Pen.Start d
+effect_on_drawing o d (Entry.MaskStart mask) = with_pen Pen.Start d
+effect_on_drawing o d Entry.DefEnd = restored_drawing o d
 effect_on_drawing o d _ = d
 
 -- the open definition after an entry; its start saves the attributes
 abbrev pub definition_after : Option OpenDefinition → Drawing → Entry → Option OpenDefinition
-definition_after o d (entries.GlyphStart code) = Some (record { what = definitions.Glyph code; saved = d })
-definition_after o d (entries.MaskStart mask) = Some (record { what = definitions.Mask mask; saved = d })
-definition_after o d entries.DefEnd = None
+definition_after o d (Entry.GlyphStart code) = Some (record { what = Definition.Glyph code; saved = d })
+definition_after o d (Entry.MaskStart mask) = Some (record { what = Definition.Mask mask; saved = d })
+definition_after o d Entry.DefEnd = None
 definition_after o d _ = o
 
 -- the entry, if it is a character
 abbrev pub last_after : Entry → Option LastChar
-last_after (entries.Char set code hand) = Some (record { set = set; code = code })
+last_after (Entry.Char set code hand) = Some (record { set = set; code = code })
 last_after _ = None
 
 -- the known colours after an entry: MAP adds one, and RESET clears them if it chooses colours
 abbrev pub known_after : List MapColour → Entry → List MapColour
-known_after known (entries.Map a grb) = with_known_colour a grb known
-known_after known (entries.Reset first second pen) = known_after_reset first known
+known_after known (Entry.Map a grb) = with_known_colour a grb known
+known_after known (Entry.Reset first second pen) = known_after_reset first known
 known_after known _ = known
 
 -- the state after an entry: its attributes become current, and then it has its effect

@@ -4,7 +4,7 @@
 ghost use Rattle.std.specs.Prelude.{◌≡◌, ◌↔◌, ◌<◌, ◌≤◌, ◌+◌, List, [], ◌∷◌, IsTrue, length, take, drop};
 ghost use Rattle.nap_list.specs.declared.entry.Entry.{Entry};
 ghost use Rattle.nap_list.specs.Batches.{EachIsCurrent, FirstIsCurrent, last_point, last_char_of_text, batch_entries, with_pen_and_last, text_entry};
-ghost use Rattle.nap_list.specs.State.{walk};
+ghost use Rattle.nap_list.specs.State.{after, start, walk};
 
 use crate::attribute::{Hand, Pen};
 use crate::entry::Entry;
@@ -163,6 +163,22 @@ pub fn line_start(from: Point, points: &[Point], index: usize) -> Point
         return from;
     }
     points[index - 1]
+}
+
+impl<'a> Batch<'a> {
+    /// Returns the pen after the entry at this index.
+    #[inline(always)]
+    pub(crate) fn pen_after(&self, index: usize) -> Pen
+        requires { index < length (batch_entries self.now) }
+        ensures { (e : Entry) (es : List Entry) → drop index (batch_entries self.now) ≡ e ∷ es → result ≡ (after start e).drawing.pen }
+    {
+        match self {
+            Batch::Points { points, .. } | Batch::Lines { points, .. } => {
+                Pen::At(item_at(points, index))
+            }
+            Batch::Text { .. } => Pen::After,
+        }
+    }
 }
 
 impl State {

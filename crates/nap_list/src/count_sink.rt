@@ -5,9 +5,9 @@ ghost use Rattle.nap_list.specs.Counting.{CountsEntries, Uncounted, counts_more,
 
 use crate::batch::Batch;
 use crate::entry::Entry;
-use crate::ghost_state::GhostState;
 use crate::shape::Shape;
 use crate::sink::{BatchFault, Sink, SinkFault};
+use crate::sink_state::GhostState;
 use std::alloc::Global;
 
 /// Counts the entries that it takes, and keeps none. Answers lack of memory if the count would exceed a `u64`.

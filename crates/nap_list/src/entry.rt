@@ -3,7 +3,7 @@ ghost use Rattle.std.specs.Prelude.{◌≡◌, ◌↔◌, IsTrue};
 ghost use Rattle.nap_list.specs.Entry.{IsCode, ink_attributes, hand_attributes, colour_only, pen_only, attributes, WellMade};
 
 use crate::attribute::{Area, Attributes, Colour, Hand, Ink, Pen};
-use crate::points::{Points, SHAPE_POINTS};
+use crate::shape::{Points, SHAPE_POINTS};
 use nap_codes::{CharSet, CursorKind, Mask, TextStep};
 use nap_values::{Addr, Grb, Move, Point, Word};
 

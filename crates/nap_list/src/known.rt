@@ -1,7 +1,7 @@
 //! The known colours of the colour map (PROFILE.md, Known colours of the map).
-ghost use Rattle.std.specs.Prelude.{◌≡◌, []};
 ghost use Rattle.std.specs.Cmp.Lexicographic.{pointwise};
 ghost use Rattle.std.specs.Cmp.Rules.{comparing};
+ghost use Rattle.std.specs.Prelude.{[], ◌≡◌};
 ghost use Rattle.std.proofs.Common.{rules};
 ghost use Rattle.nap_list.specs.Known.{same_colour_at, is_known, with_known_colour, known_after_reset};
 
@@ -77,9 +77,20 @@ impl Known {
     pub fn set(&mut self, addr: Addr, grb: Grb)
         ensures { self.new ≡ with_known_colour addr grb self.old }
     {
-        self.colours.retain(|old| old.addr != addr);
-        self.colours.truncate(KNOWN - 1);
-        self.colours.insert(0, MapColour { addr, grb });
+        let mut next = MapColour { addr, grb };
+        let mut kept = 0;
+        for i in 0..self.colours.len() {
+            let old = self.colours[i];
+            if old.addr != addr {
+                self.colours[kept] = next;
+                next = old;
+                kept += 1;
+            }
+        }
+        self.colours.truncate(kept);
+        if kept < KNOWN {
+            self.colours.push(next);
+        }
     }
 
     /// Applies RESET with this first word: if it chooses colours, no colour is known afterwards (PROFILE.md, RESET).

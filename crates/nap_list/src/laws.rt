@@ -3,9 +3,9 @@ ghost use Rattle.std.specs.Prelude.{◌≡◌};
 ghost use Rattle.nap_list.specs.Laws.{WalksJoin, FitsJoin, StartAgrees, CurrentAttributesChangeNothing, LegalIsNowhereIllegal, BatchIsCurrent, TextLeaves, TextEntriesAreWellMade};
 ghost use Rattle.nap_list.specs.Agreement.{AgreeingFits};
 ghost use Rattle.nap_list.specs.Limits.{points_limit, read_limit, reads_limit, known_limit};
-ghost use Rattle.nap_list.specs.declared.device.inlet.TheConstants.{READ_SIZE, READS};
+ghost use Rattle.nap_list.specs.declared.device.TheConstants.{READ_SIZE, READS};
 ghost use Rattle.nap_list.specs.declared.known.TheConstants.{KNOWN};
-ghost use Rattle.nap_list.specs.declared.points.TheConstants.{SHAPE_POINTS};
+ghost use Rattle.nap_list.specs.declared.shape.TheConstants.{SHAPE_POINTS};
 
 /// The state after two lists is the state after the second, begun at the state after the first.
 #[tactic(auto, using(crate::proofs::PublicLaws::walks_join))]

@@ -7,13 +7,12 @@ mod batch;
 mod count_sink;
 mod device;
 mod entry;
-mod ghost_state;
 mod known;
 pub mod laws;
 mod legality;
-mod points;
 mod shape;
 mod sink;
+mod sink_state;
 mod state;
 
 pub use attribute::{
@@ -25,10 +24,9 @@ pub use device::{
     DeviceFault, Inlet, Outlet, READ_SIZE, READS, STREAM_READ_SIZE, Source, Target, send_all,
 };
 pub use entry::Entry;
-pub use ghost_state::GhostState;
 pub use known::{KNOWN, Known, MapColour};
 pub use legality::legal;
-pub use points::{Points, SHAPE_POINTS};
-pub use shape::{Shape, ShapeKind};
+pub use shape::{Points, SHAPE_POINTS, Shape, ShapeKind};
 pub use sink::{BatchFault, ListSink, Sink, SinkFault};
+pub use sink_state::{GhostState, WrittenState};
 pub use state::{Definition, Drawing, LastChar, OpenDefinition, State, corner};

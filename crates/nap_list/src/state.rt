@@ -1,8 +1,8 @@
 //! The state that a list of entries leaves (PROFILE.md, The drawing state).
-ghost use Rattle.std.specs.Prelude.{◌≡◌, ◌↔◌, IsTrue, Some};
+ghost use Rattle.std.specs.Prelude.{◌≡◌, ◌↔◌, IsTrue, None, Some};
 ghost use Rattle.nap_list.specs.Entry.{attributes, ink_attributes, hand_attributes, colour_only};
 ghost use Rattle.nap_list.specs.Agreement.{AreCurrent};
-ghost use Rattle.nap_list.specs.State.{start_texture, start_text, start_drawing, start, corner, PenFits, ColourFits, TextureFits, AttributesFit, MayCome, Fits, with_attributes, with_pen, ink_of, hand_of, restored_drawing, reset, effect_on_drawing, definition_after, last_after, known_after, after, base_after};
+ghost use Rattle.nap_list.specs.State.{start_texture, start_text, start_drawing, start, corner, PenFits, ColourFits, TextureFits, AttributesFit, MayCome, Fits, with_attributes, with_pen, ink_of, hand_of, restored_drawing, reset, effect_on_drawing, definition_after, last_after, known_after, after};
 
 use crate::attribute::{
     Attributes, Base, CharSize, Colour, Hand, Ink, Origin, Pen, Preset, TextLook, Texture,
@@ -112,19 +112,6 @@ impl TextLook {
             && self.second == wanted.second
             && self.size == wanted.size
             && self.has_modes_of(wanted)
-    }
-}
-
-impl Base {
-    /// Returns the colour of mode 0 after selecting `colour`: a direct colour replaces it.
-    #[inline(always)]
-    fn base_after(self, colour: &Colour) -> Base
-        ensures { result ≡ base_after self (Some colour.now) }
-    {
-        match colour {
-            Colour::Direct(grb) => Base::Direct(*grb),
-            _ => self,
-        }
     }
 }
 
@@ -257,7 +244,9 @@ impl Drawing {
     fn apply_colour(&mut self, colour: &Colour)
         ensures { self.new ≡ with_attributes self.old (colour_only colour.now) }
     {
-        self.base = self.base.base_after(colour);
+        if let Colour::Direct(grb) = colour {
+            self.base = Base::Direct(*grb);
+        }
         self.colour = *colour;
     }
 
@@ -400,63 +389,12 @@ impl State {
             && self.may_come(entry)
     }
 
-    /// Opens a definition: saves the attributes, and puts the pen at the start.
-    fn open_definition(&mut self, what: Definition)
-        ensures { self.new ≡ record self.old { drawing = with_pen Pen.Start self.old.drawing; definition = Some (record { what = what; saved = self.old.drawing }) } }
-    {
-        self.definition = Some(OpenDefinition {
-            what,
-            saved: self.drawing,
-        });
-        self.drawing.pen = Pen::Start;
-    }
-
-    /// Ends the open definition, and restores the attributes.
-    fn close_definition(&mut self)
-        ensures { self.new ≡ record self.old { drawing = restored_drawing self.old.definition self.old.drawing; definition = None } }
-    {
-        if let Some(opened) = self.definition {
-            self.drawing = opened.saved;
-        }
-        self.definition = None;
-    }
-
     /// Applies the effect of an entry to the attributes and the open definition.
     #[inline(always)]
     fn apply_effect(&mut self, entry: &Entry)
         ensures { self.new ≡ record self.old { drawing = effect_on_drawing self.old.definition self.old.drawing entry.now; definition = definition_after self.old.definition self.old.drawing entry.now } }
     {
-        match entry {
-            Entry::Point { at, .. } => self.drawing.pen = Pen::At(*at),
-            Entry::Line { to, .. } => self.drawing.pen = Pen::At(*to),
-            Entry::Arc { points, .. } => {
-                if let Some(last) = points.as_slice().last() {
-                    self.drawing.pen = Pen::At(*last);
-                }
-            }
-            Entry::Poly { points, .. } => {
-                if let Some(first) = points.as_slice().first() {
-                    self.drawing.pen = Pen::At(*first);
-                }
-            }
-            Entry::Rect { from, to, .. } => self.drawing.pen = Pen::At(corner(*from, *to)),
-            Entry::Char { .. }
-            | Entry::TextMove { .. }
-            | Entry::ToEol { .. }
-            | Entry::Field { .. }
-            | Entry::Clear { .. } => self.drawing.pen = Pen::After,
-            Entry::Reset { first, second, .. } => self.drawing.reset(*first, *second),
-            Entry::Map { addr, .. } => self.drawing.colour = Colour::Front(*addr),
-            Entry::GlyphStart(code) => self.open_definition(Definition::Glyph(*code)),
-            Entry::MaskStart(mask) => self.open_definition(Definition::Mask(*mask)),
-            Entry::DefEnd => self.close_definition(),
-            Entry::Blink { .. }
-            | Entry::BlinkEnd { .. }
-            | Entry::BlinkMark { .. }
-            | Entry::Wait(_)
-            | Entry::Bell
-            | Entry::Cursor(_) => {}
-        }
+        apply_effect(&mut self.drawing, &mut self.definition, entry);
     }
 
     /// Applies the effect of an entry to the known colours.
@@ -504,5 +442,71 @@ fn last_char(entry: &Entry) -> Option<LastChar>
             code: *code,
         }),
         _ => None,
+    }
+}
+
+/// Opens a definition: saves the attributes, and puts the pen at the start.
+fn open_definition(drawing: &mut Drawing, definition: &mut Option<OpenDefinition>, what: Definition)
+    ensures drawing { drawing.new ≡ with_pen Pen.Start drawing.old }
+    ensures definition { definition.new ≡ Some (record { what = what; saved = drawing.old }) }
+{
+    *definition = Some(OpenDefinition {
+        what,
+        saved: *drawing,
+    });
+    drawing.pen = Pen::Start;
+}
+
+/// Ends the open definition, and restores the attributes.
+fn close_definition(drawing: &mut Drawing, definition: &mut Option<OpenDefinition>)
+    ensures drawing { drawing.new ≡ restored_drawing definition.old drawing.old }
+    ensures definition { definition.new ≡ None }
+{
+    if let Some(opened) = *definition {
+        *drawing = opened.saved;
+    }
+    *definition = None;
+}
+
+/// Applies the effect of an entry to the attributes and the open definition.
+#[inline(always)]
+pub(crate) fn apply_effect(
+    drawing: &mut Drawing,
+    definition: &mut Option<OpenDefinition>,
+    entry: &Entry,
+)
+    ensures drawing { drawing.new ≡ effect_on_drawing definition.old drawing.old entry.now }
+    ensures definition { definition.new ≡ definition_after definition.old drawing.old entry.now }
+{
+    match entry {
+        Entry::Point { at, .. } => drawing.pen = Pen::At(*at),
+        Entry::Line { to, .. } => drawing.pen = Pen::At(*to),
+        Entry::Arc { points, .. } => {
+            if let Some(last) = points.as_slice().last() {
+                drawing.pen = Pen::At(*last);
+            }
+        }
+        Entry::Poly { points, .. } => {
+            if let Some(first) = points.as_slice().first() {
+                drawing.pen = Pen::At(*first);
+            }
+        }
+        Entry::Rect { from, to, .. } => drawing.pen = Pen::At(corner(*from, *to)),
+        Entry::Char { .. }
+        | Entry::TextMove { .. }
+        | Entry::ToEol { .. }
+        | Entry::Field { .. }
+        | Entry::Clear { .. } => drawing.pen = Pen::After,
+        Entry::Reset { first, second, .. } => drawing.reset(*first, *second),
+        Entry::Map { addr, .. } => drawing.colour = Colour::Front(*addr),
+        Entry::GlyphStart(code) => open_definition(drawing, definition, Definition::Glyph(*code)),
+        Entry::MaskStart(mask) => open_definition(drawing, definition, Definition::Mask(*mask)),
+        Entry::DefEnd => close_definition(drawing, definition),
+        Entry::Blink { .. }
+        | Entry::BlinkEnd { .. }
+        | Entry::BlinkMark { .. }
+        | Entry::Wait(_)
+        | Entry::Bell
+        | Entry::Cursor(_) => {}
     }
 }

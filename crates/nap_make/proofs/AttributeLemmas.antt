@@ -1,13 +1,255 @@
-use Rattle.nap_make.proofs.Common.{All, All-append, All-cons, BothFit, ColourInRange, HasSixteenBitParts, IsInRange, IsWord, MaskInRange, None, PenInRange, Some, TextInRange, Texture, TextureInRange, append_assoc, arith, codes, colour_field, colour_text, decimal, grb_text, look_field, look_text, mask_size_text, move_text, pair_text, pel_field, pen_field, pen_text, texture_field, texture_text, ℕ, ◌++◌, ◌<◌, ◌∷◌, ◌≢◌}
-use Rattle.nap_list.specs.declared.attribute.Colour.TheVariants as colours
-use Rattle.nap_list.specs.declared.attribute.Origin.TheVariants as origins
-use Rattle.nap_list.specs.declared.attribute.Pen.TheVariants as pens
-use Rattle.nap_list.specs.declared.attribute.Preset.TheVariants as presets
-use Rattle.nap_make.proofs.ColourLemmas.{from_right}
-use Rattle.nap_make.proofs.LayoutLemmas.{Alike, Layout}
-use Rattle.nap_make.proofs.LookLemmas.{look_visible}
-use Rattle.nap_make.proofs.PlaceLemmas.{move_visible, point_visible}
-use Rattle.nap_make.proofs.SpellLemmas.{IsVisible, Spells, above, both_spell, decimal_spells, key_spells}
+use Rattle.nap_make.proofs.Common.{All, All-append, All-cons, All-weaker, AnyValue, Bool, BothFit, CharSize, Colour, ColourInRange, ColourKind, Components, Coordinates, Displacement, HasSixteenBitParts, IfSome, IsAddress, IsInRange, IsInSquare, IsNumbered, IsParsed, IsSigned, IsSome, IsWord, IsWritten, List, MaskInRange, None, Option, Origin, Pen, PenInRange, Preset, Size, SizeInRange, Some, SplitsAtByte, TextInRange, TextLook, TextModes, Texture, TextureInRange, WritesNone, [], ap, append_assoc, arith, codes, colour_text, cond, decimal, decimal_injective, false, flag_text, get_or, grb_text, kind_name, length, look_text, mask_size_text, modes_text, move_text, pair_text, pen_text, point_text, refl, signed_decimal, size_text, subst, sym, texture_text, true, ℕ, ℤ, ◌++◌, ◌<◌, ◌↔◌, ◌∙◌, ◌∷◌, ◌≡◌, ◌≢◌}
+use Rattle.nap_make.proofs.CutLemmas.{cut_text, Alike, Layout, Tells, alike_tell, both_tell, reads_tried}
+use Rattle.nap_make.proofs.NumberLemmas.{IsVisible, OfDigits, Spells, above, apart_below, both_spell, decimal_spells, signed_spells, signed_tells}
+
+-- Numbers separated by commas.
+
+pub coordinates : Layout (λ n. n < 8388608) decimal 44 (λ n. n < 8388608) decimal
+coordinates = record { apart = λ n fits. decimal_spells (λ x. x ≢ 44) (λ d low high is. omega (arith, low, is)) n (omega (arith, fits)) }
+
+pub word_pair : Layout IsWord decimal 44 IsWord decimal
+word_pair = record { apart = λ n fits. decimal_spells (λ x. x ≢ 44) (λ d low high is. omega (arith, low, is)) n (omega (arith, fits)) }
+
+pub word_triple : Layout IsWord decimal 44 (BothFit IsWord IsWord) (pair_text decimal 44 decimal)
+word_triple = record { apart = word_pair.apart }
+
+pub addr_pair : Layout IsAddress decimal 44 IsAddress decimal
+addr_pair = record { apart = λ n fits. decimal_spells (λ x. x ≢ 44) (λ d low high is. omega (arith, low, is)) n (omega (arith, fits)) }
+
+pub signs : Layout IsSigned signed_decimal 44 IsSigned signed_decimal
+signs = record { apart = signed_spells (λ x. x ≢ 44) (λ d low high is. omega (arith, low, is)) (λ is. omega (arith, is)) }
+
+-- Points and displacements as pairs of numbers.
+
+pub point_pair : Alike (λ (p : Coordinates). (p.x, p.y)) IsInSquare point_text (BothFit (λ n. n < 8388608) (λ n. n < 8388608)) (pair_text decimal 44 decimal)
+point_pair = record { there = λ p fits. fits; back = λ p fits. fits; same = λ p. append_assoc (decimal p.x) (codes ",") (decimal p.y) }
+
+pub move_pair : Alike (λ (m : Displacement). (m.x, m.y)) IsInRange move_text (BothFit IsSigned IsSigned) (pair_text signed_decimal 44 signed_decimal)
+move_pair = record {
+  there = λ m fits. ((fits.0, fits.1), (fits.2, fits.3));
+  back = λ m fits. (fits.0.0, fits.0.1, fits.1.0, fits.1.1);
+  same = λ m. append_assoc (signed_decimal m.x) (codes ",") (signed_decimal m.y);
+}
+
+-- a displacement that equals one with this text, tried whether it is in range
+pub move_tried : (xs : List ℕ) (m n : Displacement) (r : Option Displacement) → n ≡ m → IsWritten IsInRange move_text xs m → (IsSome r ↔ IsInRange n) → IfSome r (λ d. d ≡ n) →
+    IsParsed IsInRange move_text xs r
+move_tried xs m n r same ensured found value = reads_tried IsInRange move_text xs n r (subst (λ (d : Displacement). IsWritten IsInRange move_text xs d) (sym same) ensured) found value
+
+-- Bytes of points and displacements.
+
+number_spells : (R : ℕ → Type 0) → OfDigits R → Spells R (λ n. n < 8388608) decimal
+number_spells R digit n fits = decimal_spells R digit n (omega (arith, fits))
+
+pub point_spells : (R : ℕ → Type 0) → OfDigits R → R 44 → Spells R IsInSquare point_text
+point_spells R digit comma p fits = rw (append_assoc (decimal p.x) (codes ",") (decimal p.y))
+    (both_spell R (λ n. n < 8388608) decimal 44 (λ n. n < 8388608) decimal (number_spells R digit) comma (number_spells R digit) (p.x, p.y) fits)
+
+pub point_visible : Spells IsVisible IsInSquare point_text
+point_visible = point_spells IsVisible (λ d low high. omega (arith, low)) (omega arith)
+
+pub move_spells : (R : ℕ → Type 0) → OfDigits R → R 44 → R 45 → Spells R IsInRange move_text
+move_spells R digit comma minus m fits = rw (append_assoc (signed_decimal m.x) (codes ",") (signed_decimal m.y))
+    (both_spell R IsSigned signed_decimal 44 IsSigned signed_decimal (signed_spells R digit minus) comma (signed_spells R digit minus) (m.x, m.y) ((fits.0, fits.1), (fits.2, fits.3)))
+
+pub move_visible : Spells IsVisible IsInRange move_text
+move_visible = move_spells IsVisible (λ d low high. omega (arith, low)) (omega arith) (omega arith)
+
+-- Points and displacements with equal texts are equal.
+
+pub point_tells : Tells IsInSquare point_text
+point_tells = alike_tell point_pair (λ (p : ℕ × ℕ). record { x = p.0; y = p.1 }) (λ p. refl) (both_tell coordinates below_tells below_tells)
+  where
+    below_tells : Tells (λ n. n < 8388608) decimal
+    below_tells m n m_fits n_fits is = decimal_injective m n (omega (arith, m_fits)) (omega (arith, n_fits)) is
+
+pub move_tells : Tells IsInRange move_text
+move_tells = alike_tell move_pair (λ (p : ℤ × ℤ). record { x = p.0; y = p.1 }) (λ m. refl) (both_tell signs signed_tells signed_tells)
+
+-- lists joined from the left, and from the right
+pub from_right : (a b c d e : List ℕ) → a ++ b ++ c ++ d ++ e ≡ a ++ (b ++ (c ++ (d ++ e)))
+from_right a b c d e = append_assoc (a ++ b ++ c) d e ∙ append_assoc (a ++ b) c (d ++ e) ∙ append_assoc a b (c ++ (d ++ e))
+
+-- Colours by their parts.
+
+pub part_pair : Layout (λ n. n < 65536) decimal 44 (λ n. n < 65536) decimal
+part_pair = record { apart = λ n fits. decimal_spells (λ x. x ≢ 44) (λ d low high is. omega (arith, low, is)) n (omega (arith, fits)) }
+
+pub part_triple : Layout (λ n. n < 65536) decimal 44 (BothFit (λ n. n < 65536) (λ n. n < 65536)) (pair_text decimal 44 decimal)
+part_triple = record { apart = part_pair.apart }
+
+pub grb_triple : Alike (λ (c : Components). (c.g, (c.r, c.b))) HasSixteenBitParts grb_text (BothFit (λ n. n < 65536) (BothFit (λ n. n < 65536) (λ n. n < 65536))) (pair_text decimal 44 (pair_text decimal 44 decimal))
+grb_triple = record {
+  there = λ c fits. (fits.0, (fits.1, fits.2));
+  back = λ c fits. (fits.0, fits.1.0, fits.1.1);
+  same = λ c. from_right (decimal c.g) (codes ",") (decimal c.r) (codes ",") (decimal c.b);
+}
+
+-- Colours by their numbers.
+
+-- no colour of this kind has these numbers
+abbrev pub NoNumbers : ColourKind → List ℕ → Type 0
+NoNumbers ColourKind.Direct more = WritesNone HasSixteenBitParts grb_text more
+NoNumbers ColourKind.Front more = WritesNone IsAddress decimal more
+NoNumbers ColourKind.Pair more = WritesNone (BothFit IsAddress IsAddress) (pair_text decimal 44 decimal) more
+
+-- a text is that of a colour with numbers: what is before its colon, and what is after it
+abbrev pub HasKind : Colour → List ℕ → List ℕ → Type 0
+HasKind (Colour.Direct grb) name more = (name ≡ codes "direct") × (more ≡ grb_text grb)
+HasKind (Colour.Front addr) name more = (name ≡ codes "front") × (more ≡ decimal addr)
+HasKind (Colour.Pair prefix back) name more = (name ≡ codes "pair") × (more ≡ pair_text decimal 44 decimal (prefix, back))
+HasKind _ name more = ⊥
+
+kind_apart : (k : ColourKind) → All (λ x. x ≢ 58) (kind_name k)
+kind_apart ColourKind.Direct = apart_below 58 58 (codes "direct") (omega arith) (above 58 (codes "direct") (omega arith))
+kind_apart ColourKind.Front = apart_below 58 58 (codes "front") (omega arith) (above 58 (codes "front") (omega arith))
+kind_apart ColourKind.Pair = apart_below 58 58 (codes "pair") (omega arith) (above 58 (codes "pair") (omega arith))
+
+pub has_kind : (bytes name more : List ℕ) (c : Colour) → SplitsAtByte 58 bytes name more → IsNumbered c → bytes ≡ colour_text c → HasKind c name more
+has_kind bytes name more (Colour.Direct grb) cut fits is = cut_text 58 bytes name more (codes "direct") (grb_text grb) cut (kind_apart ColourKind.Direct) is
+has_kind bytes name more (Colour.Front addr) cut fits is = cut_text 58 bytes name more (codes "front") (decimal addr) cut (kind_apart ColourKind.Front) is
+has_kind bytes name more (Colour.Pair prefix back) cut fits is =
+    cut_text 58 bytes name more (codes "pair") (pair_text decimal 44 decimal (prefix, back)) cut (kind_apart ColourKind.Pair)
+    (is ∙ ap (λ (s : List ℕ). codes "pair:" ++ s) (append_assoc (decimal prefix) (codes ",") (decimal back)))
+has_kind bytes name more _ cut fits is = absurd fits
+
+pub no_colon : (bytes : List ℕ) → ((prefix back : List ℕ) → SplitsAtByte 58 bytes prefix back → ⊥) → WritesNone IsNumbered colour_text bytes
+no_colon bytes none (Colour.Direct grb) fits is = none (codes "direct") (grb_text grb) (record { joins = is; first = kind_apart ColourKind.Direct })
+no_colon bytes none (Colour.Front addr) fits is = none (codes "front") (decimal addr) (record { joins = is; first = kind_apart ColourKind.Front })
+no_colon bytes none (Colour.Pair prefix back) fits is = none (codes "pair") (decimal prefix ++ codes "," ++ decimal back) (record { joins = is; first = kind_apart ColourKind.Pair })
+no_colon bytes none _ fits is = fits
+
+pub no_kind : (bytes name more : List ℕ) → SplitsAtByte 58 bytes name more → ((k : ColourKind) → name ≢ kind_name k) → WritesNone IsNumbered colour_text bytes
+no_kind bytes name more cut none c fits is = by c (has_kind bytes name more c cut fits is)
+  where
+    by : (c : Colour) → HasKind c name more → ⊥
+    by (Colour.Direct grb) has = none ColourKind.Direct has.0
+    by (Colour.Front addr) has = none ColourKind.Front has.0
+    by (Colour.Pair prefix back) has = none ColourKind.Pair has.0
+    by _ has = has
+
+-- kinds with equal names are equal
+kinds_tell : (j k : ColourKind) → kind_name j ≡ kind_name k → j ≡ k
+kinds_tell ColourKind.Direct ColourKind.Direct is = refl
+kinds_tell ColourKind.Front ColourKind.Front is = refl
+kinds_tell ColourKind.Pair ColourKind.Pair is = refl
+kinds_tell _ _ is = cc
+
+pub no_numbers : (bytes name more : List ℕ) (k : ColourKind) → SplitsAtByte 58 bytes name more → name ≡ kind_name k → NoNumbers k more → WritesNone IsNumbered colour_text bytes
+no_numbers bytes name more k cut named none c fits is = by c fits (has_kind bytes name more c cut fits is)
+  where
+    at : (j : ColourKind) → name ≡ kind_name j → NoNumbers j more
+    at j also = subst (λ i. NoNumbers i more) (kinds_tell k j (sym named ∙ also)) none
+
+    by : (c : Colour) → IsNumbered c → HasKind c name more → ⊥
+    by (Colour.Direct grb) fits has = at ColourKind.Direct has.0 grb fits has.1
+    by (Colour.Front addr) fits has = at ColourKind.Front has.0 addr fits has.1
+    by (Colour.Pair prefix back) fits has = at ColourKind.Pair has.0 (prefix, back) fits has.1
+    by _ fits has = has
+
+-- The four flags by their bytes.
+
+pub flag_byte : (on : Bool) (letter : ℕ) → flag_text on (letter ∷ []) ≡ cond on letter 45 ∷ []
+flag_byte true letter = refl
+flag_byte false letter = refl
+
+pub modes_bytes : (m : TextModes) → modes_text m ≡ cond m.reverse 114 45 ∷ cond m.underline 117 45 ∷ cond m.wrap 119 45 ∷ cond m.scroll 115 45 ∷ []
+modes_bytes m = rw (flag_byte m.reverse 114, flag_byte m.underline 117, flag_byte m.wrap 119, flag_byte m.scroll 115) refl
+
+-- a byte that is neither the letter of a flag nor `-` is no flag's
+no_flag : (xs : List ℕ) (i letter : ℕ) (on : TextModes → Bool) → ((m : TextModes) → get_or (modes_text m) i 0 ≡ cond (on m) letter 45) →
+    ((b : Bool) → get_or xs i 0 ∷ [] ≢ flag_text b (letter ∷ [])) → WritesNone AnyValue modes_text xs
+no_flag xs i letter on at none m fits is = none (on m) (ap (λ (x : ℕ). x ∷ []) (ap (λ (s : List ℕ). get_or s i 0) is ∙ at m) ∙ sym (flag_byte (on m) letter))
+
+pub no_reverse : (xs : List ℕ) → ((b : Bool) → get_or xs 0 0 ∷ [] ≢ flag_text b (114 ∷ [])) → WritesNone AnyValue modes_text xs
+no_reverse xs none = no_flag xs 0 114 (λ m. m.reverse) (λ m. ap (λ (s : List ℕ). get_or s 0 0) (modes_bytes m)) none
+
+pub no_underline : (xs : List ℕ) → ((b : Bool) → get_or xs 1 0 ∷ [] ≢ flag_text b (117 ∷ [])) → WritesNone AnyValue modes_text xs
+no_underline xs none = no_flag xs 1 117 (λ m. m.underline) (λ m. ap (λ (s : List ℕ). get_or s 1 0) (modes_bytes m)) none
+
+pub no_wrap : (xs : List ℕ) → ((b : Bool) → get_or xs 2 0 ∷ [] ≢ flag_text b (119 ∷ [])) → WritesNone AnyValue modes_text xs
+no_wrap xs none = no_flag xs 2 119 (λ m. m.wrap) (λ m. ap (λ (s : List ℕ). get_or s 2 0) (modes_bytes m)) none
+
+pub no_scroll : (xs : List ℕ) → ((b : Bool) → get_or xs 3 0 ∷ [] ≢ flag_text b (115 ∷ [])) → WritesNone AnyValue modes_text xs
+no_scroll xs none = no_flag xs 3 115 (λ m. m.scroll) (λ m. ap (λ (s : List ℕ). get_or s 3 0) (modes_bytes m)) none
+
+pub not_four : (xs : List ℕ) → length xs ≢ 4 → WritesNone AnyValue modes_text xs
+not_four xs other m fits is = other (ap (λ (s : List ℕ). length s) (is ∙ modes_bytes m))
+
+four_bytes : (xs : List ℕ) → length xs ≡ 4 → xs ≡ get_or xs 0 0 ∷ get_or xs 1 0 ∷ get_or xs 2 0 ∷ get_or xs 3 0 ∷ []
+four_bytes (a ∷ b ∷ c ∷ d ∷ []) four = refl
+four_bytes _ four = absurd (omega (arith, four))
+
+-- a byte that is this flag's
+flag_is : (x letter : ℕ) (on : Bool) → x ∷ [] ≡ flag_text on (letter ∷ []) → x ≡ cond on letter 45
+flag_is x letter on is = ap (λ (s : List ℕ). get_or s 0 0) (is ∙ flag_byte on letter)
+
+pub modes_written : (xs : List ℕ) (m : TextModes) → length xs ≡ 4 → get_or xs 0 0 ∷ [] ≡ flag_text m.reverse (114 ∷ []) → get_or xs 1 0 ∷ [] ≡ flag_text m.underline (117 ∷ []) →
+    get_or xs 2 0 ∷ [] ≡ flag_text m.wrap (119 ∷ []) → get_or xs 3 0 ∷ [] ≡ flag_text m.scroll (115 ∷ []) → IsWritten AnyValue modes_text xs m
+modes_written xs m four r u w s =
+    let first = flag_is (get_or xs 0 0) 114 m.reverse r in
+    let second = flag_is (get_or xs 1 0) 117 m.underline u in
+    let third = flag_is (get_or xs 2 0) 119 m.wrap w in
+    let fourth = flag_is (get_or xs 3 0) 115 m.scroll s in
+    let bytes : get_or xs 0 0 ∷ get_or xs 1 0 ∷ get_or xs 2 0 ∷ get_or xs 3 0 ∷ [] ≡ cond m.reverse 114 45 ∷ cond m.underline 117 45 ∷ cond m.wrap 119 45 ∷ cond m.scroll 115 45 ∷ [] = cc in
+    record { fitting = tt; written = four_bytes xs four ∙ bytes ∙ sym (modes_bytes m) }
+
+-- Text attributes by their parts.
+
+-- a text without a slash has none in its parts
+pub size_spells : (R : ℕ → Type 0) → OfDigits R → R 44 → R 45 → ((x : ℕ) → 96 < x → R x) → Spells R SizeInRange size_text
+size_spells R digit comma minus letter (CharSize.Named Size.Small) fits = All-weaker (λ x. 96 < x) R letter (codes "small") (above 96 (codes "small") (omega arith))
+size_spells R digit comma minus letter (CharSize.Named Size.Medium) fits = All-weaker (λ x. 96 < x) R letter (codes "medium") (above 96 (codes "medium") (omega arith))
+size_spells R digit comma minus letter (CharSize.Named Size.Normal) fits = All-weaker (λ x. 96 < x) R letter (codes "normal") (above 96 (codes "normal") (omega arith))
+size_spells R digit comma minus letter (CharSize.Named Size.Tall) fits = All-weaker (λ x. 96 < x) R letter (codes "tall") (above 96 (codes "tall") (omega arith))
+size_spells R digit comma minus letter (CharSize.Named Size.Double) fits = All-weaker (λ x. 96 < x) R letter (codes "double") (above 96 (codes "double") (omega arith))
+size_spells R digit comma minus letter (CharSize.Given size) fits = move_spells R digit comma minus size fits
+
+words_spell : (R : ℕ → Type 0) → OfDigits R → R 44 → Spells R (BothFit IsWord IsWord) (pair_text decimal 44 decimal)
+words_spell R digit comma =
+    both_spell R IsWord decimal 44 IsWord decimal (λ n fits. decimal_spells R digit n (omega (arith, fits))) comma (λ n fits. decimal_spells R digit n (omega (arith, fits)))
+
+pub size_modes : Layout SizeInRange size_text 47 AnyValue modes_text
+size_modes = record { apart = size_spells (λ x. x ≢ 47) (λ d low high is. omega (arith, low, is)) (λ is. omega (arith, is)) (λ is. omega (arith, is)) (λ x low is. omega (arith, low, is)) }
+
+pub look_parts : Layout (BothFit IsWord IsWord) (pair_text decimal 44 decimal) 47 (BothFit SizeInRange AnyValue) (pair_text size_text 47 modes_text)
+look_parts = record { apart = words_spell (λ x. x ≢ 47) (λ d low high is. omega (arith, low, is)) (λ is. omega (arith, is)) }
+
+abbrev pub modes_of : TextLook → TextModes
+modes_of look = record { reverse = look.reverse; underline = look.underline; wrap = look.wrap; scroll = look.scroll }
+
+look_joined : (first second size modes : List ℕ) → first ++ codes "," ++ second ++ codes "/" ++ size ++ codes "/" ++ modes ≡ (first ++ 44 ∷ second) ++ 47 ∷ (size ++ 47 ∷ modes)
+look_joined first second size modes =
+    from_right (first ++ codes "," ++ second) (codes "/") size (codes "/") modes
+    ∙ ap (λ (s : List ℕ). s ++ 47 ∷ (size ++ 47 ∷ modes)) (append_assoc first (codes ",") second)
+
+pub look_triple : Alike (λ (t : TextLook). ((t.first, t.second), (t.size, modes_of t))) TextInRange look_text
+    (BothFit (BothFit IsWord IsWord) (BothFit SizeInRange AnyValue)) (pair_text (pair_text decimal 44 decimal) 47 (pair_text size_text 47 modes_text))
+look_triple = record {
+  there = λ t fits. ((fits.first, fits.second), (fits.size, tt));
+  back = λ t fits. record { first = fits.0.0; second = fits.0.1; size = fits.1.0 };
+  same = λ t. look_joined (decimal t.first) (decimal t.second) (size_text t.size) (modes_text (modes_of t));
+}
+
+flag_visible : (on : Bool) (letter : ℕ) → 32 < letter → All IsVisible (flag_text on (letter ∷ []))
+flag_visible true letter high = above 32 (letter ∷ []) (high, tt)
+flag_visible false letter high = above 32 (codes "-") (omega arith)
+
+modes_visible : (m : TextModes) → All IsVisible (modes_text m)
+modes_visible m =
+    All-append IsVisible (flag_text m.reverse (codes "r") ++ flag_text m.underline (codes "u") ++ flag_text m.wrap (codes "w")) (flag_text m.scroll (codes "s"))
+    (All-append IsVisible (flag_text m.reverse (codes "r") ++ flag_text m.underline (codes "u")) (flag_text m.wrap (codes "w"))
+    (All-append IsVisible (flag_text m.reverse (codes "r")) (flag_text m.underline (codes "u")) (flag_visible m.reverse 114 (omega arith)) (flag_visible m.underline 117 (omega arith)))
+    (flag_visible m.wrap 119 (omega arith)))
+    (flag_visible m.scroll 115 (omega arith))
+
+pub look_visible : Spells IsVisible TextInRange look_text
+look_visible t fits = rw (look_joined (decimal t.first) (decimal t.second) (size_text t.size) (modes_text (modes_of t)))
+    (both_spell IsVisible (BothFit IsWord IsWord) (pair_text decimal 44 decimal) 47 (BothFit SizeInRange AnyValue) (pair_text size_text 47 modes_text)
+    (words_spell IsVisible (λ d low high. omega (arith, low)) (omega arith)) (omega arith)
+    (both_spell IsVisible SizeInRange size_text 47 AnyValue modes_text
+    (size_spells IsVisible (λ d low high. omega (arith, low)) (omega arith) (omega arith) (λ x low. omega (arith, low))) (omega arith) (λ m any. modes_visible m))
+    ((t.first, t.second), (t.size, modes_of t)) ((fits.first, fits.second), (fits.size, tt)))
 
 -- the digits of a number are visible
 pub number_visible : (n : ℕ) → n < 16777216 → All IsVisible (decimal n)
@@ -29,7 +271,7 @@ mask_visible : Spells IsVisible MaskInRange mask_size_text
 mask_visible None fits = above 32 (codes "none") (omega arith)
 mask_visible (Some size) fits = move_visible size fits
 
-texture_visible : Spells IsVisible TextureInRange texture_text
+pub texture_visible : Spells IsVisible TextureInRange texture_text
 texture_visible t fits = rw (append_assoc (decimal t.word) (codes "/") (mask_size_text t.mask))
     (both_spell IsVisible IsWord decimal 47 MaskInRange mask_size_text (λ n less. number_visible n (omega (arith, less))) (omega arith) mask_visible (t.word, t.mask) (fits.word, fits.mask))
 
@@ -42,36 +284,21 @@ grb_visible c fits = rw (from_right (decimal c.g) (codes ",") (decimal c.r) (cod
     (All-append IsVisible (decimal c.r) (44 ∷ decimal c.b) (number_visible c.r (omega (arith, fits.1)))
     (All-cons IsVisible 44 (decimal c.b) (omega arith) (number_visible c.b (omega (arith, fits.2)))))))
 
-colour_visible : Spells IsVisible ColourInRange colour_text
-colour_visible (colours.Own origins.AtStart) fits = above 32 (codes "own-start") (omega arith)
-colour_visible (colours.Own origins.AfterReset) fits = above 32 (codes "own-reset") (omega arith)
-colour_visible (colours.Direct grb) fits = All-append IsVisible (codes "direct:") (grb_text grb) (above 32 (codes "direct:") (omega arith)) (grb_visible grb fits)
-colour_visible (colours.Front addr) fits = All-append IsVisible (codes "front:") (decimal addr) (above 32 (codes "front:") (omega arith)) (number_visible addr fits)
-colour_visible (colours.Pair prefix back) fits =
+pub colour_visible : Spells IsVisible ColourInRange colour_text
+colour_visible (Colour.Own Origin.AtStart) fits = above 32 (codes "own-start") (omega arith)
+colour_visible (Colour.Own Origin.AfterReset) fits = above 32 (codes "own-reset") (omega arith)
+colour_visible (Colour.Direct grb) fits = All-append IsVisible (codes "direct:") (grb_text grb) (above 32 (codes "direct:") (omega arith)) (grb_visible grb fits)
+colour_visible (Colour.Front addr) fits = All-append IsVisible (codes "front:") (decimal addr) (above 32 (codes "front:") (omega arith)) (number_visible addr fits)
+colour_visible (Colour.Pair prefix back) fits =
     All-append IsVisible (codes "pair:" ++ decimal prefix ++ codes ",") (decimal back)
     (All-append IsVisible (codes "pair:" ++ decimal prefix) (codes ",")
     (All-append IsVisible (codes "pair:") (decimal prefix) (above 32 (codes "pair:") (omega arith)) (number_visible prefix fits.0))
     (above 32 (codes ",") (omega arith)))
     (number_visible back fits.1)
-colour_visible (colours.ByReset presets.Two) fits = above 32 (codes "reset-2") (omega arith)
-colour_visible (colours.ByReset presets.Three) fits = above 32 (codes "reset-3") (omega arith)
+colour_visible (Colour.ByReset Preset.Two) fits = above 32 (codes "reset-2") (omega arith)
+colour_visible (Colour.ByReset Preset.Three) fits = above 32 (codes "reset-3") (omega arith)
 
-pen_visible : Spells IsVisible PenInRange pen_text
-pen_visible pens.Start fits = above 32 (codes "start") (omega arith)
-pen_visible (pens.At point) fits = point_visible point fits
-pen_visible pens.After fits = above 32 (codes "after") (omega arith)
-
-pub pel_field_visible : Spells IsVisible IsInRange pel_field
-pel_field_visible = key_spells IsInRange move_text (codes "pel=") (omega arith) move_visible
-
-pub colour_field_visible : Spells IsVisible ColourInRange colour_field
-colour_field_visible = key_spells ColourInRange colour_text (codes "colour=") (omega arith) colour_visible
-
-pub texture_field_visible : Spells IsVisible TextureInRange texture_field
-texture_field_visible = key_spells TextureInRange texture_text (codes "texture=") (omega arith) texture_visible
-
-pub pen_field_visible : Spells IsVisible PenInRange pen_field
-pen_field_visible = key_spells PenInRange pen_text (codes "pen=") (omega arith) pen_visible
-
-pub look_field_visible : Spells IsVisible TextInRange look_field
-look_field_visible = key_spells TextInRange look_text (codes "text=") (omega arith) look_visible
+pub pen_visible : Spells IsVisible PenInRange pen_text
+pen_visible Pen.Start fits = above 32 (codes "start") (omega arith)
+pen_visible (Pen.At point) fits = point_visible point fits
+pen_visible Pen.After fits = above 32 (codes "after") (omega arith)

@@ -1,25 +1,9 @@
-use Rattle.nap_make.proofs.Common.{All, All-head, All-tail, AnyValue, BothFit, CharSet, ColourInRange, Coordinates, CursorKind, Entry, Fields, HasSixteenBitParts, IsAddress, IsInRange, IsInSquare, IsPlainStep, IsProper, IsSigned, IsWord, Kind, List, Mask, MaskInRange, None, Option, PenInRange, SizeInRange, Some, Sort, TextInRange, TextureInRange, Value, [], ap, arith, codes, colour_field, colour_text, cursor_text, decimal, field_text, fields_line, fields_of, fields_text, grb_text, inl, inr, kind_row, length, length-append, length-decimal-le, length_signed_le, line, line_name, look_field, look_text, mask_size_text, mask_text, modes_text, move_text, negsuc, pair_text, pel_field, pen_field, pen_text, point_text, points_before, pos, set_text, signed_decimal, size_text, step_text, texture_field, texture_text, with_word, ℕ, ◌*◌, ◌++◌, ◌+◌, ◌<◌, ◌∷◌, ◌≡◌, ◌≤◌}
-use Rattle.nap_codes.specs.declared.code_set.CharSet.TheVariants as char_sets
-use Rattle.nap_codes.specs.declared.control.CursorKind.TheVariants as cursors
-use Rattle.nap_codes.specs.declared.control.Mask.TheVariants as masks
-use Rattle.nap_codes.specs.declared.control.Size.TheVariants as named_sizes
-use Rattle.nap_codes.specs.declared.control.TextStep.TheVariants as steps
-use Rattle.nap_list.specs.declared.attribute.CharSize.TheVariants as sizes
-use Rattle.nap_list.specs.declared.attribute.Colour.TheVariants as colours
-use Rattle.nap_list.specs.declared.attribute.Origin.TheVariants as origins
-use Rattle.nap_list.specs.declared.attribute.Pen.TheVariants as pens
-use Rattle.nap_list.specs.declared.attribute.Preset.TheVariants as presets
-use Rattle.nap_make.specs.declared.field.Sort.TheVariants as sorts
-use Rattle.nap_make.specs.declared.field.Value.TheVariants as values
-use Rattle.nap_make.specs.declared.kind.Kind.TheVariants as kinds
-use Rattle.nap_make.proofs.AttributeLemmas.{texture_pair, texture_parts}
-use Rattle.nap_make.proofs.ColourLemmas.{grb_triple, part_pair, part_triple}
+use Rattle.nap_make.proofs.Common.{All, All-head, All-tail, AnyValue, BothFit, CharSet, CharSize, Colour, ColourInRange, Coordinates, CursorKind, Entry, Fields, HasSixteenBitParts, IsAddress, IsInRange, IsInSquare, IsPlainStep, IsProper, IsSigned, IsWord, Kind, List, Mask, MaskInRange, None, Option, Origin, Pen, PenInRange, Preset, Size, SizeInRange, Some, Sort, TextInRange, TextStep, TextureInRange, Value, [], ap, arith, codes, colour_text, cursor_text, decimal, field_text, fields_line, fields_of, fields_text, grb_text, inl, inr, kind_row, length, length-append, length-decimal-le, length_signed_le, line, line_name, look_text, mask_size_text, mask_text, modes_text, move_text, negsuc, pair_text, pen_text, point_text, points_before, pos, set_text, signed_decimal, size_text, step_text, texture_text, with_word, ℕ, ◌*◌, ◌++◌, ◌+◌, ◌<◌, ◌∷◌, ◌≡◌, ◌≤◌}
+use Rattle.nap_make.proofs.AttributeLemmas.{texture_pair, texture_parts, grb_triple, part_pair, part_triple, look_parts, look_triple, modes_bytes, size_modes, coordinates, move_pair, point_pair, signs, word_pair, word_triple}
 use Rattle.nap_make.proofs.EntryLemmas.{FieldsFit, LineIs, PointsFit, fields_fit, line_is}
-use Rattle.nap_make.proofs.LayoutLemmas.{Alike, Layout}
-use Rattle.nap_make.proofs.LookLemmas.{look_parts, look_triple, modes_bytes, size_modes}
-use Rattle.nap_make.proofs.PlaceLemmas.{coordinates, move_pair, point_pair, signs, word_pair, word_triple}
-use Rattle.nap_make.proofs.SortLemmas.{AreOf, InType, fits_are}
-use Rattle.nap_make.proofs.SpellLemmas.{low_neg, low_pos}
+use Rattle.nap_make.proofs.CutLemmas.{Alike, Layout}
+use Rattle.nap_make.proofs.RowLemmas.{AreOf, InType, fits_are}
+use Rattle.nap_make.proofs.NumberLemmas.{low_neg, low_pos}
 
 -- The greatest lengths of texts.
 
@@ -68,17 +52,16 @@ grb_bound : AtMost 17 HasSixteenBitParts grb_text
 grb_bound = alike_bound 17 grb_triple (both_bound 5 11 part_triple part_bound (both_bound 5 5 part_pair part_bound part_bound))
 
 colour_bound : AtMost 24 ColourInRange colour_text
-colour_bound (colours.Own origins.AtStart) fits = omega arith
-colour_bound (colours.Own origins.AfterReset) fits = omega arith
-colour_bound (colours.Direct grb) fits = key_bound 17 HasSixteenBitParts grb_text (codes "direct:") grb_bound grb fits
-colour_bound (colours.Front addr) fits = omega (arith, key_bound 8 IsAddress decimal (codes "front:") addr_bound addr fits)
-colour_bound (colours.Pair prefix back) fits =
+colour_bound (Colour.Own Origin.AtStart) fits = omega arith
+colour_bound (Colour.Direct grb) fits = key_bound 17 HasSixteenBitParts grb_text (codes "direct:") grb_bound grb fits
+colour_bound (Colour.Front addr) fits = omega (arith, key_bound 8 IsAddress decimal (codes "front:") addr_bound addr fits)
+colour_bound (Colour.Pair prefix back) fits =
     let one : length (codes "pair:" ++ decimal prefix ++ codes "," ++ decimal back) ≡ length (codes "pair:" ++ decimal prefix ++ codes ",") + length (decimal back) = length-append (codes "pair:" ++ decimal prefix ++ codes ",") (decimal back) in
     let two : length (codes "pair:" ++ decimal prefix ++ codes ",") ≡ length (codes "pair:" ++ decimal prefix) + 1 = length-append (codes "pair:" ++ decimal prefix) (codes ",") in
     let three : length (codes "pair:" ++ decimal prefix) ≡ 5 + length (decimal prefix) = length-append (codes "pair:") (decimal prefix) in
     omega (arith, one, two, three, addr_bound prefix fits.0, addr_bound back fits.1)
-colour_bound (colours.ByReset presets.Two) fits = omega arith
-colour_bound (colours.ByReset presets.Three) fits = omega arith
+colour_bound (Colour.ByReset Preset.Two) fits = omega arith
+colour_bound _ fits = omega arith
 
 mask_bound : AtMost 17 MaskInRange mask_size_text
 mask_bound None fits = omega arith
@@ -88,13 +71,12 @@ texture_bound : AtMost 20 TextureInRange texture_text
 texture_bound = alike_bound 20 texture_pair (both_bound 2 17 texture_parts word_bound mask_bound)
 
 pen_bound : AtMost 15 PenInRange pen_text
-pen_bound pens.Start fits = omega arith
-pen_bound (pens.At point) fits = point_bound point fits
-pen_bound pens.After fits = omega arith
+pen_bound (Pen.At point) fits = point_bound point fits
+pen_bound _ fits = omega arith
 
 size_bound : AtMost 17 SizeInRange size_text
-size_bound (sizes.Named named_sizes.Small) fits = omega arith
-size_bound (sizes.Given size) fits = move_bound size fits
+size_bound (CharSize.Named Size.Small) fits = omega arith
+size_bound (CharSize.Given size) fits = move_bound size fits
 size_bound _ fits = omega arith
 
 modes_bound : AtMost 4 AnyValue modes_text
@@ -103,75 +85,60 @@ modes_bound m any = let size : length (modes_text m) ≡ 4 = ap (λ (s : List �
 look_bound : AtMost 28 TextInRange look_text
 look_bound = alike_bound 28 look_triple (both_bound 5 22 look_parts (both_bound 2 2 word_pair word_bound word_bound) (both_bound 17 4 size_modes size_bound modes_bound))
 
-pel_field_bound : AtMost 21 IsInRange pel_field
-pel_field_bound = key_bound 17 IsInRange move_text (codes "pel=") move_bound
-
-colour_field_bound : AtMost 31 ColourInRange colour_field
-colour_field_bound = key_bound 24 ColourInRange colour_text (codes "colour=") colour_bound
-
-texture_field_bound : AtMost 28 TextureInRange texture_field
-texture_field_bound = key_bound 20 TextureInRange texture_text (codes "texture=") texture_bound
-
-pen_field_bound : AtMost 19 PenInRange pen_field
-pen_field_bound = key_bound 15 PenInRange pen_text (codes "pen=") pen_bound
-
-look_field_bound : AtMost 33 TextInRange look_field
-look_field_bound = key_bound 28 TextInRange look_text (codes "text=") look_bound
-
 set_bound : (set : CharSet) → length (set_text set) ≤ 13
-set_bound char_sets.Primary = omega arith
+set_bound CharSet.Primary = omega arith
 set_bound _ = omega arith
 
 step_bound : AtMost 3 IsPlainStep step_text
-step_bound (steps.Aps row column) fits = absurd fits
-step_bound steps.Apb fits = omega arith
+step_bound (TextStep.Aps row column) fits = absurd fits
+step_bound TextStep.Apb fits = omega arith
 step_bound _ fits = omega arith
 
 cursor_bound : (state : CursorKind) → length (cursor_text state) ≤ 6
-cursor_bound cursors.Flash = omega arith
+cursor_bound CursorKind.Flash = omega arith
 cursor_bound _ = omega arith
 
 letter_bound : (mask : Mask) → length (mask_text mask) ≤ 1
-letter_bound masks.A = omega arith
+letter_bound Mask.A = omega arith
 letter_bound _ = omega arith
 
 -- Fields, rows and lines.
 
 -- the greatest length of a field, and a space
 abbrev bound_of : Sort → ℕ
-bound_of sorts.Addr = 9
-bound_of sorts.Code = 3
-bound_of sorts.Colour = 32
-bound_of sorts.Cursor = 7
-bound_of sorts.Look = 34
-bound_of sorts.Mask = 2
-bound_of sorts.Parts = 18
-bound_of sorts.Pel = 22
-bound_of sorts.Pen = 20
-bound_of sorts.Point = 16
-bound_of sorts.Set = 14
-bound_of sorts.Step = 4
-bound_of sorts.Texture = 29
-bound_of sorts.Times = 9
-bound_of sorts.Word = 3
+bound_of Sort.Addr = 9
+bound_of Sort.Code = 3
+bound_of Sort.Colour = 32
+bound_of Sort.Cursor = 7
+bound_of Sort.Look = 34
+bound_of Sort.Mask = 2
+bound_of Sort.Parts = 18
+bound_of Sort.Pel = 22
+bound_of Sort.Pen = 20
+bound_of Sort.Point = 16
+bound_of Sort.Set = 14
+bound_of Sort.Step = 4
+bound_of Sort.Texture = 29
+bound_of Sort.Times = 9
+bound_of Sort.Word = 3
 
 field_bound : (s : Sort) (v : Value) → InType s v → length (field_text v) < bound_of s
-field_bound sorts.Addr (values.Addr number) fits = omega (arith, addr_bound number fits)
-field_bound sorts.Code (values.Code code) fits = omega arith
-field_bound sorts.Colour (values.Colour colour) fits = omega (arith, colour_field_bound colour fits)
-field_bound sorts.Cursor (values.Cursor state) fits = omega (arith, cursor_bound state)
-field_bound sorts.Look (values.Look look) fits = omega (arith, look_field_bound look fits)
-field_bound sorts.Mask (values.Mask mask) fits = omega (arith, letter_bound mask)
-field_bound sorts.Parts (values.Parts grb) fits = omega (arith, grb_bound grb fits)
-field_bound sorts.Pel (values.Pel pel) fits = omega (arith, pel_field_bound pel fits)
-field_bound sorts.Pen (values.Pen pen) fits = omega (arith, pen_field_bound pen fits)
-field_bound sorts.Point (values.Point point) fits = omega (arith, point_bound point fits)
-field_bound sorts.Set (values.Set set) fits = omega (arith, set_bound set)
-field_bound sorts.Step (values.Step step) fits = omega (arith, step_bound step fits)
-field_bound sorts.Texture (values.Texture texture) fits = omega (arith, texture_field_bound texture fits)
-field_bound sorts.Times (values.Times on off delay) fits =
+field_bound Sort.Addr (Value.Addr number) fits = omega (arith, addr_bound number fits)
+field_bound Sort.Code (Value.Code code) fits = omega arith
+field_bound Sort.Colour (Value.Colour colour) fits = omega (arith, key_bound 24 ColourInRange colour_text (codes "colour=") colour_bound colour fits)
+field_bound Sort.Cursor (Value.Cursor state) fits = omega (arith, cursor_bound state)
+field_bound Sort.Look (Value.Look look) fits = omega (arith, key_bound 28 TextInRange look_text (codes "text=") look_bound look fits)
+field_bound Sort.Mask (Value.Mask mask) fits = omega (arith, letter_bound mask)
+field_bound Sort.Parts (Value.Parts grb) fits = omega (arith, grb_bound grb fits)
+field_bound Sort.Pel (Value.Pel pel) fits = omega (arith, key_bound 17 IsInRange move_text (codes "pel=") move_bound pel fits)
+field_bound Sort.Pen (Value.Pen pen) fits = omega (arith, key_bound 15 PenInRange pen_text (codes "pen=") pen_bound pen fits)
+field_bound Sort.Point (Value.Point point) fits = omega (arith, point_bound point fits)
+field_bound Sort.Set (Value.Set set) fits = omega (arith, set_bound set)
+field_bound Sort.Step (Value.Step step) fits = omega (arith, step_bound step fits)
+field_bound Sort.Texture (Value.Texture texture) fits = omega (arith, key_bound 20 TextureInRange texture_text (codes "texture=") texture_bound texture fits)
+field_bound Sort.Times (Value.Times on off delay) fits =
     omega (arith, both_bound 2 5 word_triple word_bound (both_bound 2 2 word_pair word_bound word_bound) (on, (off, delay)) (fits.0, (fits.1, fits.2)))
-field_bound sorts.Word (values.Word number) fits = omega (arith, word_bound number fits)
+field_bound Sort.Word (Value.Word number) fits = omega (arith, word_bound number fits)
 field_bound _ _ fits = absurd fits
 
 abbrev row_bound : List Sort → ℕ
@@ -186,41 +153,39 @@ fields_below : (row : List Sort) (vs : List Value) → AreOf row vs → 0 < leng
 fields_below (s ∷ row) (v ∷ []) are some = omega (arith, field_bound s v are.0)
 fields_below (s ∷ row) (v ∷ w ∷ vs) are some = omega (arith, around (field_text v) (fields_text (w ∷ vs)) 32, field_bound s v are.0, fields_below row (w ∷ vs) are.1 (omega arith))
 fields_below [] [] are some = absurd (omega (arith, some))
-fields_below (s ∷ row) [] are some = absurd are
-fields_below [] (v ∷ vs) are some = absurd are
+fields_below _ _ are some = absurd are
 
 points_bound : (points : List Coordinates) (last : List ℕ) → All IsInSquare points → length (points_before points last) ≤ 16 * length points + length last
 points_bound [] last fit = omega arith
 points_bound (p ∷ points) last fit = omega (arith, around (point_text p) (points_before points last) 32, point_bound p (All-head IsInSquare p points fit), points_bound points last (All-tail IsInSquare p points fit))
 
 name_bound : (k : Kind) → length (line_name k) ≤ 13
-name_bound kinds.Point = omega arith
+name_bound Kind.Point = omega arith
 name_bound _ = omega arith
 
 word_bound_of : (k : Kind) (rest : List ℕ) → length (with_word k rest) ≤ 6 + length rest
-word_bound_of kinds.Position rest = omega arith
-word_bound_of kinds.Whole rest = omega arith
+word_bound_of Kind.Position rest = omega arith
 word_bound_of _ rest = omega arith
 
 -- the fields of a kind without points, and those of a shape
 plain_bound : (k : Kind) → row_bound (kind_row k) ≤ 115
-plain_bound kinds.Point = omega arith
+plain_bound Kind.Point = omega arith
 plain_bound _ = omega arith
 
 -- each kind has fields
 some_fields : (k : Kind) (vs : List Value) → AreOf (kind_row k) vs → 0 < length vs
 some_fields k (v ∷ vs) are = omega arith
-some_fields kinds.Point [] are = absurd are
+some_fields Kind.Point [] are = absurd are
 some_fields _ [] are = absurd are
 
-shape_bound : (points : List Coordinates) (vs : List Value) → All IsInSquare points → length points ≤ 2001 → AreOf (kind_row kinds.ArcFilled) vs → length (points_before points (fields_text vs)) ≤ 32098
-shape_bound points vs inside few are = omega (arith, points_bound points (fields_text vs) inside, fields_below (kind_row kinds.ArcFilled) vs are (some_fields kinds.ArcFilled vs are), few)
+shape_bound : (points : List Coordinates) (vs : List Value) → All IsInSquare points → length points ≤ 2001 → AreOf (kind_row Kind.ArcFilled) vs → length (points_before points (fields_text vs)) ≤ 32098
+shape_bound points vs inside few are = omega (arith, points_bound points (fields_text vs) inside, fields_below (kind_row Kind.ArcFilled) vs are (some_fields Kind.ArcFilled vs are), few)
 
 rest_bound : (k : Kind) (points : List Coordinates) (vs : List Value) → PointsFit k points → AreOf (kind_row k) vs → length (with_word k (points_before points (fields_text vs))) ≤ 32098
-rest_bound kinds.ArcOutlined points vs fit are = shape_bound points vs fit.0 fit.2 are
-rest_bound kinds.ArcFilled points vs fit are = shape_bound points vs fit.0 fit.2 are
-rest_bound kinds.PolyOutlined points vs fit are = shape_bound points vs fit.0 fit.2 are
-rest_bound kinds.PolyFilled points vs fit are = shape_bound points vs fit.0 fit.2 are
+rest_bound Kind.ArcOutlined points vs fit are = shape_bound points vs fit.0 fit.2 are
+rest_bound Kind.ArcFilled points vs fit are = shape_bound points vs fit.0 fit.2 are
+rest_bound Kind.PolyOutlined points vs fit are = shape_bound points vs fit.0 fit.2 are
+rest_bound Kind.PolyFilled points vs fit are = shape_bound points vs fit.0 fit.2 are
 rest_bound k points vs fit are =
     let size : length (points_before points (fields_text vs)) ≡ length (fields_text vs) = ap (λ (ps : List Coordinates). length (points_before ps (fields_text vs))) fit in
     omega (arith, size, word_bound_of k (points_before points (fields_text vs)), fields_below (kind_row k) vs are (some_fields k vs are), plain_bound k)

@@ -1,13 +1,10 @@
 -- Characters after text, one after another, and their lines.
 
 use Rattle.nap_make.proofs.Common.{All, All-head, All-map, All-tail, All-weaker, AllFit, CharLine, CharSet, Colour, ColourFits, Drawing, Entry, Fits, FollowsChar, Hand, IsCode, IsProper, List, None, Option, Pen, Some, State, TextStep, [], after, ap, append_assoc, arith, base_after, code_line, code_lines, code_text, drop, flat_map_more, format_effector, format_effector_front, hand_of, length, line, lines, map, refl, subst, sym, take, take-append-drop, text_entries, text_entries_in, text_entry_as, text_leaves, walk, ℕ, ◌++◌, ◌∙◌, ◌∷◌, ◌≡◌, ◌≢◌}
-use Rattle.nap_list.specs.declared.attribute.Colour.TheVariants as colours
-use Rattle.nap_list.specs.declared.attribute.Pen.TheVariants as pens
-use Rattle.nap_list.specs.declared.entry.Entry.TheVariants as entry
 
 -- the attributes of a character after text
 abbrev pub text_hand : Drawing → Hand
-text_hand d = record (hand_of d) { pen = pens.After }
+text_hand d = record (hand_of d) { pen = Pen.After }
 
 -- a code is no format effector
 plain_code : (code : ℕ) → IsCode code → format_effector code ≡ None
@@ -19,24 +16,22 @@ plain_code code is_code = by (format_effector code) refl
 
 -- a colour that fits does so again
 colour_again : (colour : Colour) (d t : Drawing) → t.base ≡ base_after d.base (Some colour) → t.colour ≡ colour → ColourFits d (Some colour) → ColourFits t (Some colour)
-colour_again (colours.Own origin) d t base same fits = base ∙ fits
-colour_again (colours.ByReset preset) d t base same fits = same
-colour_again (colours.Direct grb) d t base same fits = tt
-colour_again (colours.Front addr) d t base same fits = tt
-colour_again (colours.Pair front back) d t base same fits = tt
+colour_again (Colour.Own origin) d t base same fits = base ∙ fits
+colour_again (Colour.ByReset preset) d t base same fits = same
+colour_again _ d t base same fits = tt
 
 module _ (set : CharSet) (d : Drawing) where
   abbrev char : ℕ → Entry
-  char code = entry.Char set code (text_hand d)
+  char code = Entry.Char set code (text_hand d)
 
-  chars_are : (codes : List ℕ) → All IsCode codes → text_entries d pens.After set codes ≡ map char codes
+  chars_are : (codes : List ℕ) → All IsCode codes → text_entries d Pen.After set codes ≡ map char codes
   unfolding text_entries_in
   chars_are [] all = refl
   chars_are (code ∷ codes) all =
-      ap (λ (step : Option TextStep). text_entry_as step set (text_hand d) code ∷ text_entries d pens.After set codes) (plain_code code (All-head IsCode code codes all))
+      ap (λ (step : Option TextStep). text_entry_as step set (text_hand d) code ∷ text_entries d Pen.After set codes) (plain_code code (All-head IsCode code codes all))
       ∙ ap (λ (es : List Entry). char code ∷ es) (chars_are codes (All-tail IsCode code codes all))
 
-  pub no_text : (codes : List ℕ) → length codes ≡ 0 → text_entries d pens.After set codes ≡ []
+  pub no_text : (codes : List ℕ) → length codes ≡ 0 → text_entries d Pen.After set codes ≡ []
   unfolding text_entries_in
   no_text [] none = refl
   no_text (code ∷ codes) none = absurd (omega (arith, none))
@@ -61,8 +56,8 @@ module _ (set : CharSet) (d : Drawing) where
   chars_define s [] = refl
   chars_define s (code ∷ codes) = chars_define (after s (char code)) codes
 
-  chars_unended : (codes : List ℕ) → All IsCode codes → All (λ e. e ≢ entry.DefEnd) (map char codes)
-  chars_unended codes all = All-map (λ e. e ≢ entry.DefEnd) char codes (All-weaker IsCode (λ code. char code ≢ entry.DefEnd) (λ code is_code is. let bad : ⊥ = cc in bad) codes all)
+  chars_unended : (codes : List ℕ) → All IsCode codes → All (λ e. e ≢ Entry.DefEnd) (map char codes)
+  chars_unended codes all = All-map (λ e. e ≢ Entry.DefEnd) char codes (All-weaker IsCode (λ code. char code ≢ Entry.DefEnd) (λ code is_code is. let bad : ⊥ = cc in bad) codes all)
 
   chars_proper : (code : ℕ) (codes : List ℕ) → IsProper (char code) → All IsCode codes → All IsProper (map char codes)
   chars_proper code codes proper all =
@@ -82,11 +77,11 @@ module _ (l : CharLine) (s : State) (follows : FollowsChar l s) where
   its_hand : follows.line_is.hand ≡ text_hand s.drawing
   its_hand =
       let hand = follows.line_is.hand in
-      let made : s ≡ after follows.before (entry.Char l.set follows.line_is.code hand) = follows.state ∙ ap (after follows.before) follows.line_is.entry_is in
+      let made : s ≡ after follows.before (Entry.Char l.set follows.line_is.code hand) = follows.state ∙ ap (after follows.before) follows.line_is.entry_is in
       ap (λ (pen : Pen). record hand { pen = pen }) follows.line_is.after_text ∙ sym (ap (λ (t : State). text_hand t.drawing) made)
 
   its_entry : follows.entry ≡ char l.set s.drawing follows.line_is.code
-  its_entry = follows.line_is.entry_is ∙ ap (λ (hand : Hand). entry.Char l.set follows.line_is.code hand) its_hand
+  its_entry = follows.line_is.entry_is ∙ ap (λ (hand : Hand). Entry.Char l.set follows.line_is.code hand) its_hand
 
   its_fit : Fits follows.before (char l.set s.drawing follows.line_is.code)
   its_fit = subst (Fits follows.before) its_entry follows.fits
@@ -94,7 +89,7 @@ module _ (l : CharLine) (s : State) (follows : FollowsChar l s) where
   its_state : after follows.before (char l.set s.drawing follows.line_is.code) ≡ s
   its_state = sym (follows.state ∙ ap (after follows.before) its_entry)
 
-  pub text_fits : (codes : List ℕ) → All IsCode codes → AllFit s (text_entries s.drawing pens.After l.set codes)
+  pub text_fits : (codes : List ℕ) → All IsCode codes → AllFit s (text_entries s.drawing Pen.After l.set codes)
   text_fits codes all =
       subst (AllFit s) (sym (chars_are l.set s.drawing codes all))
       (subst (λ (t : State). AllFit t (map (char l.set s.drawing) codes)) its_state (chars_fit l.set s.drawing follows.before follows.line_is.code codes its_fit all))
@@ -102,24 +97,24 @@ module _ (l : CharLine) (s : State) (follows : FollowsChar l s) where
   pub last_fits : (code : ℕ) → IsCode code → Fits s (char l.set s.drawing code)
   last_fits code is_code = subst (λ (t : State). Fits t (char l.set s.drawing code)) its_state (next_fits l.set s.drawing follows.before follows.line_is.code code its_fit is_code)
 
-  pub text_proper : (codes : List ℕ) → All IsCode codes → All IsProper (text_entries s.drawing pens.After l.set codes)
+  pub text_proper : (codes : List ℕ) → All IsCode codes → All IsProper (text_entries s.drawing Pen.After l.set codes)
   text_proper codes all =
       subst (All IsProper) (sym (chars_are l.set s.drawing codes all))
       (chars_proper l.set s.drawing follows.line_is.code codes (subst IsProper its_entry follows.proper) all)
 
-  pub text_unended : (codes : List ℕ) → All IsCode codes → All (λ e. e ≢ entry.DefEnd) (text_entries s.drawing pens.After l.set codes)
-  text_unended codes all = subst (All (λ e. e ≢ entry.DefEnd)) (sym (chars_are l.set s.drawing codes all)) (chars_unended l.set s.drawing codes all)
+  pub text_unended : (codes : List ℕ) → All IsCode codes → All (λ e. e ≢ Entry.DefEnd) (text_entries s.drawing Pen.After l.set codes)
+  text_unended codes all = subst (All (λ e. e ≢ Entry.DefEnd)) (sym (chars_are l.set s.drawing codes all)) (chars_unended l.set s.drawing codes all)
 
-  pub text_defines : (codes : List ℕ) → All IsCode codes → (walk s (text_entries s.drawing pens.After l.set codes)).definition ≡ s.definition
+  pub text_defines : (codes : List ℕ) → All IsCode codes → (walk s (text_entries s.drawing Pen.After l.set codes)).definition ≡ s.definition
   text_defines codes all = ap (λ (es : List Entry). (walk s es).definition) (chars_are l.set s.drawing codes all) ∙ chars_define l.set s.drawing s codes
 
-  pub text_lines : (codes : List ℕ) → All IsCode codes → lines (text_entries s.drawing pens.After l.set codes) ≡ code_lines l codes
+  pub text_lines : (codes : List ℕ) → All IsCode codes → lines (text_entries s.drawing Pen.After l.set codes) ≡ code_lines l codes
   text_lines codes all =
       ap lines (chars_are l.set s.drawing codes all)
-      ∙ lines_of_chars l.set s.drawing l codes (λ code. ap (λ (hand : Hand). line (entry.Char l.set code hand)) (sym its_hand) ∙ follows.line_is.parts code)
+      ∙ lines_of_chars l.set s.drawing l codes (λ code. ap (λ (hand : Hand). line (Entry.Char l.set code hand)) (sym its_hand) ∙ follows.line_is.parts code)
 
   -- the state after a text is that after its last character
-  pub text_left : (codes front : List ℕ) (last : ℕ) → codes ≡ front ++ last ∷ [] → IsCode last → after s (char l.set s.drawing last) ≡ walk s (text_entries s.drawing pens.After l.set codes)
+  pub text_left : (codes front : List ℕ) (last : ℕ) → codes ≡ front ++ last ∷ [] → IsCode last → after s (char l.set s.drawing last) ≡ walk s (text_entries s.drawing Pen.After l.set codes)
   text_left codes front last is is_code =
       sym (text_leaves s l.set (text_hand s.drawing) codes front last is ∙ ap (λ (step : Option TextStep). after s (text_entry_as step l.set (text_hand s.drawing) last)) (plain_code last is_code))
 

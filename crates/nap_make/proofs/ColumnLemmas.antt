@@ -1,23 +1,8 @@
-use Rattle.nap_make.proofs.Common.{All, All-append, All-cons, All-nil, BeginsLine, BeginsNoPoint, Coordinates, EndsPoints, EndsWithSpace, Entry, Fields, FitsSort, HasPoints, InSort, IsChosen, IsColumnAtName, IsFirstWrong, IsInSquare, IsNameAlone, IsPlace, IsProper, Kind, List, None, Sort, SplitsAtByte, TellsColumn, Value, WritesNone, [], ap, append-nil, append_assoc, arith, codes, false, field_text, fields_before, fields_text, get_or, inl, inr, kind_row, least_points, length, length-append, line, line_from, line_name, point_text, points_before, points_limit, pos, refl, subst, sym, with_word, ℕ, ◌++◌, ◌+◌, ◌-◌, ◌∙◌, ◌∷◌, ◌≡◌, ◌≢◌, ◌≤◌, ◌⊎◌}
-use Rattle.nap_codes.specs.declared.code_set.CharSet.TheVariants as char_sets
-use Rattle.nap_codes.specs.declared.control.CursorKind.TheVariants as cursors
-use Rattle.nap_codes.specs.declared.control.Mask.TheVariants as masks
-use Rattle.nap_codes.specs.declared.control.Size.TheVariants as named_sizes
-use Rattle.nap_codes.specs.declared.control.TextStep.TheVariants as steps
-use Rattle.nap_list.specs.declared.attribute.CharSize.TheVariants as sizes
-use Rattle.nap_list.specs.declared.attribute.Colour.TheVariants as colours
-use Rattle.nap_list.specs.declared.attribute.Origin.TheVariants as origins
-use Rattle.nap_list.specs.declared.attribute.Pen.TheVariants as pens
-use Rattle.nap_list.specs.declared.entry.Entry.TheVariants as entry
-use Rattle.nap_make.specs.declared.field.Sort.TheVariants as sorts
-use Rattle.nap_make.specs.declared.field.Value.TheVariants as values
-use Rattle.nap_make.specs.declared.kind.Kind.TheVariants as kinds
+use Rattle.nap_make.proofs.Common.{All, All-append, All-cons, All-nil, BeginsLine, BeginsNoPoint, CharSet, CharSize, Colour, Coordinates, CursorKind, EndsPoints, EndsWithSpace, Entry, Err, Fields, FitsSort, HasFields, HasPoints, InSort, IsChosen, IsColumnAtName, IsFirstWrong, IsInSquare, IsNameAlone, IsPlace, IsProper, Kind, LineFault, List, Mask, MatchResult, None, Ok, Origin, Pen, Result, Size, Sort, SplitsAtByte, TellsColumn, TellsLine, TextStep, Value, WritesNone, [], ap, append-nil, append_assoc, arith, codes, false, field_text, fields_before, fields_text, get_or, inl, inr, kind_row, least_points, length, length-append, line, line_from, line_name, point_text, points_before, points_limit, pos, refl, subst, sym, with_word, ℕ, ◌++◌, ◌+◌, ◌-◌, ◌<◌, ◌∙◌, ◌∷◌, ◌≡◌, ◌≢◌, ◌≤◌, ◌⊎◌}
 use Rattle.nap_make.proofs.CutLemmas.{cut_text, no_cut, one_cut, uncut}
-use Rattle.nap_make.proofs.EntryLemmas.{HasEntry, LineIs, line_is, plain_entry_with, shape_entry_with}
-use Rattle.nap_make.proofs.KindLemmas.{chosen_stays, line_append, name_apart}
-use Rattle.nap_make.proofs.LineLemmas.{IsReadAs, alone_whole, none_plain, read_or_alone, with_fields}
-use Rattle.nap_make.proofs.RowLemmas.{before_append, first_stays, fits_append, stays}
-use Rattle.nap_make.proofs.ShapeLemmas.{IsWrongAfter, none_shape, point_apart, points_append, points_join, shape_fit}
+use Rattle.nap_make.proofs.EntryLemmas.{HasEntry, LineIs, line_is, plain_entry_with, same_entry, shape_entry_with}
+use Rattle.nap_make.proofs.LineLemmas.{IsReadAs, IsWrongAfter, alone_whole, fields_written, none_plain, none_shape, point_apart, points_append, points_join, read_or_alone, shape_fit, with_fields}
+use Rattle.nap_make.proofs.RowLemmas.{before_append, chosen_stays, first_stays, fits_append, line_append, name_apart, stays}
 
 -- The column of a fault.
 
@@ -70,21 +55,21 @@ tells_field bytes right left column parts column_is ends begins none stop = reco
 -- Each sort has a value.
 
 pub sample : (s : Sort) → (v : Value) × InSort s v
-sample sorts.Addr = (values.Addr 0, omega arith)
-sample sorts.Code = (values.Code 32, (omega arith, omega arith))
-sample sorts.Colour = (values.Colour (colours.Own origins.AtStart), tt)
-sample sorts.Cursor = (values.Cursor cursors.Off, tt)
-sample sorts.Look = (values.Look (record { first = 0; second = 0; size = sizes.Named named_sizes.Small; reverse = false; underline = false; wrap = false; scroll = false }), record { first = omega arith; second = omega arith; size = tt })
-sample sorts.Mask = (values.Mask masks.A, tt)
-sample sorts.Parts = (values.Parts (record { g = 0; r = 0; b = 0 }), (omega arith, omega arith, omega arith))
-sample sorts.Pel = (values.Pel (record { x = pos 0; y = pos 0 }), search)
-sample sorts.Pen = (values.Pen pens.Start, tt)
-sample sorts.Point = (values.Point (record { x = 0; y = 0 }), (omega arith, omega arith))
-sample sorts.Set = (values.Set char_sets.Primary, tt)
-sample sorts.Step = (values.Step steps.Apb, tt)
-sample sorts.Texture = (values.Texture (record { word = 0; mask = None }), record { word = omega arith; mask = tt })
-sample sorts.Times = (values.Times 0 0 0, (omega arith, omega arith, omega arith))
-sample sorts.Word = (values.Word 0, omega arith)
+sample Sort.Addr = (Value.Addr 0, omega arith)
+sample Sort.Code = (Value.Code 32, (omega arith, omega arith))
+sample Sort.Colour = (Value.Colour (Colour.Own Origin.AtStart), tt)
+sample Sort.Cursor = (Value.Cursor CursorKind.Off, tt)
+sample Sort.Look = (Value.Look (record { first = 0; second = 0; size = CharSize.Named Size.Small; reverse = false; underline = false; wrap = false; scroll = false }), record { first = omega arith; second = omega arith; size = tt })
+sample Sort.Mask = (Value.Mask Mask.A, tt)
+sample Sort.Parts = (Value.Parts (record { g = 0; r = 0; b = 0 }), (omega arith, omega arith, omega arith))
+sample Sort.Pel = (Value.Pel (record { x = pos 0; y = pos 0 }), search)
+sample Sort.Pen = (Value.Pen Pen.Start, tt)
+sample Sort.Point = (Value.Point (record { x = 0; y = 0 }), (omega arith, omega arith))
+sample Sort.Set = (Value.Set CharSet.Primary, tt)
+sample Sort.Step = (Value.Step TextStep.Apb, tt)
+sample Sort.Texture = (Value.Texture (record { word = 0; mask = None }), record { word = omega arith; mask = tt })
+sample Sort.Times = (Value.Times 0 0 0, (omega arith, omega arith, omega arith))
+sample Sort.Word = (Value.Word 0, omega arith)
 
 pub samples : (row : List Sort) → (vs : List Value) × FitsSort row vs
 samples [] = ([], tt)
@@ -129,8 +114,8 @@ ends_points front (p ∷ points) ends =
     (ends_points (front ++ (point_text p ++ 32 ∷ [])) points (ends_after front (point_text p ++ 32 ∷ []) (point_text p, refl)))
 
 ends_kind : (k : Kind) → EndsWithSpace (line_from k [])
-ends_kind kinds.Position = (codes "MOVE APS", refl)
-ends_kind kinds.Whole = (codes "FIELD whole", refl)
+ends_kind Kind.Position = (codes "MOVE APS", refl)
+ends_kind Kind.Whole = (codes "FIELD whole", refl)
 ends_kind k = (line_name k, refl)
 
 pub from_start : (k : Kind) (a : List ℕ) → line_from k a ≡ line_from k [] ++ a
@@ -210,10 +195,7 @@ three_inside : All IsInSquare three
 three_inside = All-cons IsInSquare corner (corner ∷ corner ∷ []) corner_inside (All-cons IsInSquare corner (corner ∷ []) corner_inside (All-cons IsInSquare corner [] corner_inside (All-nil IsInSquare)))
 
 least_small : (k : Kind) → least_points k ≤ 3
-least_small kinds.ArcOutlined = omega arith
-least_small kinds.ArcFilled = omega arith
-least_small kinds.PolyOutlined = omega arith
-least_small kinds.PolyFilled = omega arith
+least_small Kind.ArcOutlined = omega arith
 least_small _ = omega arith
 
 -- points and right fields begin the line of a shape
@@ -266,7 +248,7 @@ tells_first bytes none stop apart = record {
   parts = refl;
   column_is = refl;
   place = inl refl;
-  begins = record { entry = entry.Bell; more = codes "BELL"; proper = record { in_range = tt; well_made = tt }; begins = refl };
+  begins = record { entry = Entry.Bell; more = codes "BELL"; proper = record { in_range = tt; well_made = tt }; begins = refl };
   longest = longest;
 }
   where
@@ -314,8 +296,8 @@ tells_no_name bytes name back cuts unnamed alone = (none back bytes cuts.joins, 
     apart q r is lone = alone (subst IsNameAlone (sym (cut_text 32 bytes name back q r cuts (alone_whole q lone) is).0) lone)
 
 alone_begins : (name : List ℕ) → IsNameAlone name → BeginsLine name
-alone_begins name (inl is) = record { entry = entry.Bell; more = []; proper = record { in_range = tt; well_made = tt }; begins = ap (λ (s : List ℕ). s ++ []) (sym is) }
-alone_begins name (inr is) = record { entry = entry.DefEnd; more = []; proper = record { in_range = tt; well_made = tt }; begins = ap (λ (s : List ℕ). s ++ []) (sym is) }
+alone_begins name (inl is) = record { entry = Entry.Bell; more = []; proper = record { in_range = tt; well_made = tt }; begins = ap (λ (s : List ℕ). s ++ []) (sym is) }
+alone_begins name (inr is) = record { entry = Entry.DefEnd; more = []; proper = record { in_range = tt; well_made = tt }; begins = ap (λ (s : List ℕ). s ++ []) (sym is) }
 
 -- a name alone before a space
 pub tells_behind_name : (bytes name back : List ℕ) → SplitsAtByte 32 bytes name back → ((k : Kind) → name ≢ line_name k) → IsNameAlone name → WritesNone IsProper line bytes × TellsColumn bytes (length name + 1)
@@ -351,3 +333,68 @@ tells_behind_name bytes name back cuts unnamed alone = (
 pub tells_at_name : (bytes name back : List ℕ) (column : ℕ) → SplitsAtByte 32 bytes name back → ((k : Kind) → name ≢ line_name k) → IsColumnAtName name column → WritesNone IsProper line bytes × TellsColumn bytes column
 tells_at_name bytes name back column cuts unnamed (inl alone) = let told = tells_behind_name bytes name back cuts unnamed alone.0 in (told.0, subst (TellsColumn bytes) (sym alone.1) told.1)
 tells_at_name bytes name back column cuts unnamed (inr other) = let told = tells_no_name bytes name back cuts unnamed other.0 in (told.0, subst (TellsColumn bytes) (sym other.1) told.1)
+
+-- The steps of reading a line.
+
+-- an entry was made of these fields
+made_tells : (k : Kind) (points : List Coordinates) (vs : List Value) (rest : List ℕ) (r : Result Entry LineFault) → HasEntry k points vs → rest ≡ points_before points (fields_text vs) →
+    MatchResult r (HasFields k points vs) (λ fault. (e : Entry) → HasFields k points vs e → ⊥) → TellsLine (line_from k rest) r
+made_tells k points vs rest (Ok e) own is has = fields_written e k points vs rest (subst IsProper (same_entry own.entry e k points vs own.fields has) own.proper) has is
+made_tells k points vs rest (Err fault) own is none = absurd (none own.entry own.fields)
+
+pub plain_tells : (k : Kind) (vs : List Value) (rest : List ℕ) (r : Result Entry LineFault) → (HasPoints k → ⊥) → FitsSort (kind_row k) vs → rest ≡ fields_text vs →
+    MatchResult r (HasFields k [] vs) (λ fault. (e : Entry) → (HasPoints k → ⊥) → HasFields k [] vs e → ⊥) → TellsLine (line_from k rest) r
+plain_tells k vs rest (Ok e) plain fits is made = made_tells k [] vs rest (Ok e) (plain_entry_with k vs plain fits) is made
+plain_tells k vs rest (Err fault) plain fits is made = made_tells k [] vs rest (Err fault) (plain_entry_with k vs plain fits) is (λ e. made e plain)
+
+pub shape_tells : (k : Kind) (points : List Coordinates) (vs : List Value) (bytes rest : List ℕ) (r : Result Entry LineFault) → HasPoints k → EndsPoints bytes points rest → least_points k ≤ length points → FitsSort (kind_row k) vs →
+    rest ≡ fields_text vs → MatchResult r (HasFields k points vs) (λ fault. (e : Entry) → HasPoints k → HasFields k points vs e → ⊥) → TellsLine (line_from k bytes) r
+shape_tells k points vs bytes rest (Ok e) has ended enough fits is made =
+    made_tells k points vs bytes (Ok e) (shape_entry_with k points vs has (shape_fit k points has ended.inside enough ended.few) fits) (ended.parts ∙ ap (points_before points) is) made
+shape_tells k points vs bytes rest (Err fault) has ended enough fits is made =
+    made_tells k points vs bytes (Err fault) (shape_entry_with k points vs has (shape_fit k points has ended.inside enough ended.few) fits) (ended.parts ∙ ap (points_before points) is) (λ e. made e has)
+
+-- what is left isn't longer than the line
+
+line_longer : (k : Kind) (rest : List ℕ) → length rest ≤ length (line_from k rest)
+line_longer k rest = let size : length (line_from k rest) ≡ length (line_from k [] ++ rest) = ap (λ (s : List ℕ). length s) (from_start k rest) in omega (arith, size, length-append (line_from k []) rest)
+
+left_shorter : (row : List Sort) (rest left : List ℕ) → IsFirstWrong row rest left → length left ≤ length rest
+left_shorter row rest left first =
+    let size : length rest ≡ length (fields_before first.values [] ++ left) = ap (λ (s : List ℕ). length s) (first.parts ∙ before_append first.values [] left) in
+    omega (arith, size, length-append (fields_before first.values []) left)
+
+pub rest_shorter : (bytes : List ℕ) (points : List Coordinates) (rest : List ℕ) → EndsPoints bytes points rest → length rest ≤ length bytes
+rest_shorter bytes points rest ended =
+    let size : length bytes ≡ length (points_before points [] ++ rest) = ap (λ (s : List ℕ). length s) (ended.parts ∙ points_append points [] rest) in
+    omega (arith, size, length-append (points_before points []) rest)
+
+-- how many bytes are left from a wrong field on
+abbrev pub Left : List Sort → List ℕ → ℕ → Type 0
+Left row rest size = (left : List ℕ) × IsFirstWrong row rest left × (size ≡ length left)
+
+pub left_fits : (k : Kind) (row : List Sort) (rest : List ℕ) (size end : ℕ) → end ≡ length (line_from k rest) + 1 → Left row rest size → size ≤ end
+left_fits k row rest size end is left = omega (arith, is, left.2, left_shorter row rest left.0 left.1, line_longer k rest)
+
+pub points_left_fit : (k : Kind) (bytes : List ℕ) (points : List Coordinates) (rest : List ℕ) (end : ℕ) → end ≡ length (line_from k bytes) + 1 → EndsPoints bytes points rest → length rest ≤ end
+points_left_fit k bytes points rest end is ended = omega (arith, is, rest_shorter bytes points rest ended, line_longer k bytes)
+
+pub shape_left_fits : (k : Kind) (row : List Sort) (bytes : List ℕ) (points : List Coordinates) (rest : List ℕ) (size end : ℕ) → end ≡ length (line_from k bytes) + 1 → EndsPoints bytes points rest → Left row rest size → size ≤ end
+shape_left_fits k row bytes points rest size end is ended left = omega (arith, is, left.2, left_shorter row rest left.0 left.1, rest_shorter bytes points rest ended, line_longer k bytes)
+
+-- the answer where a field is wrong
+
+abbrev pub TellsWrong : List ℕ → ℕ → Type 0
+TellsWrong bytes column = WritesNone IsProper line bytes × TellsColumn bytes column
+
+pub plain_wrong : (k : Kind) (row : List Sort) (rest : List ℕ) (size end : ℕ) → (HasPoints k → ⊥) → IsChosen k rest → end ≡ length (line_from k rest) + 1 → row ≡ kind_row k → Left row rest size → TellsWrong (line_from k rest) (end - size)
+plain_wrong k row rest size end plain chosen is row_is left =
+    subst (λ (n : ℕ). TellsWrong (line_from k rest) (end - n)) (sym left.2) (tells_plain k rest left.0 end plain chosen is (subst (λ (r : List Sort). IsFirstWrong r rest left.0) row_is left.1))
+
+pub few_points : (k : Kind) (bytes : List ℕ) (points : List Coordinates) (rest : List ℕ) (end : ℕ) → HasPoints k → end ≡ length (line_from k bytes) + 1 → EndsPoints bytes points rest → length points < least_points k → TellsWrong (line_from k bytes) (end - length rest)
+few_points k bytes points rest end has is ended few = tells_shape k bytes points rest rest end has is ended (inl (few, refl))
+
+pub shape_wrong : (k : Kind) (row : List Sort) (bytes : List ℕ) (points : List Coordinates) (rest : List ℕ) (size end : ℕ) → HasPoints k → end ≡ length (line_from k bytes) + 1 → EndsPoints bytes points rest → least_points k ≤ length points →
+    row ≡ kind_row k → Left row rest size → TellsWrong (line_from k bytes) (end - size)
+shape_wrong k row bytes points rest size end has is ended enough row_is left =
+    subst (λ (n : ℕ). TellsWrong (line_from k bytes) (end - n)) (sym left.2) (tells_shape k bytes points rest left.0 end has is ended (inr (enough, subst (λ (r : List Sort). IsFirstWrong r rest left.0) row_is left.1)))

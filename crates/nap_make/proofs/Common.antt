@@ -9,7 +9,8 @@ pub use Rattle.nap_canon.specs.Streams.{IsAccepted, list_of}
 pub use Rattle.nap_canon.specs.Text.{entry_pieces, header, text, text_end_after, text_end_after_header}
 unfoldable pub use Rattle.nap_canon.specs.Text.{pieces, pieces_bytes}
 pub use Rattle.nap_canon.specs.TextParts.{pieces-append, pieces_bytes-append}
-pub use Rattle.nap_canon.specs.declared.form.Form.{Form}
+pub use Rattle.nap_canon.specs.declared.text.Form.TheVariants.{Two}
+pub use Rattle.nap_canon.specs.declared.text.Form.{Form}
 pub use Rattle.nap_canon.specs.declared.text_end.TextEnd.{TextEnd}
 pub use Rattle.nap_codes.proofs.PublicLaws.{format_effector_front}
 pub use Rattle.nap_codes.specs.Tables.{format_effector}
@@ -26,20 +27,23 @@ pub use Rattle.nap_list.specs.Batches.{text_entries, text_entry_as}
 unfoldable pub use Rattle.nap_list.specs.Batches.{text_entries_in}
 pub use Rattle.nap_list.specs.Device.{WritingTo}
 pub use Rattle.nap_list.specs.Entry.{IsCode}
-pub use Rattle.nap_list.specs.Flushing.{FlushedOnce, flush_count}
 pub use Rattle.nap_list.specs.Limits.{points_limit}
 pub use Rattle.nap_list.specs.Putting.{FaultMatchesDevice, HaltsAfter, TookBroke, TookMore}
 pub use Rattle.nap_list.specs.Range.{AllInRange, ColourInRange, HandInRange, InRange, IsAddress, IsByte, PenInRange, SizeInRange, TextInRange, TextureInRange}
 pub use Rattle.nap_list.specs.Reading.{IsCutOff, IsReadWhole, NoneFailed, Reading, reading}
 pub use Rattle.nap_list.specs.Sending.{Grows, Sends, Writes, grows_more, sending}
 pub use Rattle.nap_list.specs.SinkModels.{sink_model_of}
-pub use Rattle.nap_list.specs.State.{ColourFits, Fits, after, base_after, hand_of, start}
 unfoldable pub use Rattle.nap_list.specs.State.{AllFit, walk}
+pub use Rattle.nap_list.specs.State.{ColourFits, Fits, after, base_after, hand_of, start}
+pub use Rattle.nap_list.specs.declared.attribute.Area.{Area}
 pub use Rattle.nap_list.specs.declared.attribute.CharSize.{CharSize}
 pub use Rattle.nap_list.specs.declared.attribute.Colour.{Colour}
 pub use Rattle.nap_list.specs.declared.attribute.Hand.{Hand}
 pub use Rattle.nap_list.specs.declared.attribute.Ink.{Ink}
+pub use Rattle.nap_list.specs.declared.attribute.Origin.{Origin}
+pub use Rattle.nap_list.specs.declared.attribute.Pen.TheVariants.{After}
 pub use Rattle.nap_list.specs.declared.attribute.Pen.{Pen}
+pub use Rattle.nap_list.specs.declared.attribute.Preset.{Preset}
 pub use Rattle.nap_list.specs.declared.attribute.TextLook.{TextLook}
 pub use Rattle.nap_list.specs.declared.attribute.Texture.{Texture}
 pub use Rattle.nap_list.specs.declared.entry.Entry.{Entry}
@@ -64,17 +68,17 @@ pub use Rattle.nap_make.specs.Rows.{BeginsNoPoint, EndsPoints, Fields, FitsSort,
 pub use Rattle.nap_make.specs.Runs.{FollowsChar, PutsEntries, TakesLines, code_line, code_lines, fault_of_sink}
 pub use Rattle.nap_make.specs.Sorts.{InSort, field_text}
 pub use Rattle.nap_make.specs.Texts.{DeniesInput, DeniesLines, fault_of_input, fault_of_text}
-pub use Rattle.nap_make.specs.declared.colour.ColourKind.{ColourKind}
+pub use Rattle.nap_make.specs.declared.attribute.ColourKind.{ColourKind}
+pub use Rattle.nap_make.specs.declared.attribute.TextModes.{TextModes}
 pub use Rattle.nap_make.specs.declared.fault.LineFault.{LineFault}
 pub use Rattle.nap_make.specs.declared.field.Sort.{Sort}
 pub use Rattle.nap_make.specs.declared.field.Value.{Value}
 pub use Rattle.nap_make.specs.declared.kind.Kind.{Kind}
-pub use Rattle.nap_make.specs.declared.lines.fault.ListFault.{ListFault}
-pub use Rattle.nap_make.specs.declared.lines.fault.MakeFault.{MakeFault}
+pub use Rattle.nap_make.specs.declared.lines.ListFault.{ListFault}
+pub use Rattle.nap_make.specs.declared.lines.MakeFault.{MakeFault}
+pub use Rattle.nap_make.specs.declared.lines.maker.CharLine.{CharLine}
 pub use Rattle.nap_make.specs.declared.lines.maker.LineMaker.{LineMaker}
 pub use Rattle.nap_make.specs.declared.lines.reader.LineReader.{LineReader}
-pub use Rattle.nap_make.specs.declared.lines.run.CharLine.{CharLine}
-pub use Rattle.nap_make.specs.declared.look.TextModes.{TextModes}
 pub use Rattle.nap_make.specs.declared.page.PageFault.{PageFault}
 pub use Rattle.nap_reader.proofs.PublicLaws.{accepted_is_legal, read_values_are_in_range}
 pub use Rattle.nap_values.specs.Colours.{Components, HasSixteenBitParts}
@@ -85,22 +89,23 @@ pub use Rattle.std.proofs.KnownBytes.{Appends-kept, Consumes-kept, Consumes-nil,
 pub use Rattle.std.proofs.Math.Bool.{or-false, or-true}
 pub use Rattle.std.proofs.Math.Nat.{pow-le-pow_right}
 pub use Rattle.std.proofs.Math.Seq.{drop-cons, take-append_seam}
-pub use Rattle.std.proofs.lemmas.Bool.{eqb-false, false≢true, ltb-true}
 pub use Rattle.std.proofs.lemmas.Bool.Decides.{Decides-eqb, nat_tests}
+pub use Rattle.std.proofs.lemmas.Bool.{eqb-false, false_from_ne_true, false≢true, ltb-true}
 pub use Rattle.std.proofs.lemmas.Fmt.{decimal-digits_value, decimal_digit, decimal_injective, decimal_is_IsNumeral, decimal_nonempty, first_decimal, length-decimal-le, length_signed_le, signed_decimal_injective}
 pub use Rattle.std.proofs.lemmas.Grind.{common_steps}
-pub use Rattle.std.proofs.lemmas.Int.{ints, to_z-of_z}
 pub use Rattle.std.proofs.lemmas.Int.Digits.{digits_more, digits_value-lt, digits_value_more}
-pub use Rattle.std.proofs.lemmas.List.{append_cancel_left, flat_map_more, length-take-le, nil_from_length, take_all, take_more}
+pub use Rattle.std.proofs.lemmas.Int.{ints, to_z-of_z}
 pub use Rattle.std.proofs.lemmas.List.Elements.{All-append, All-cons, All-head, All-map, All-nil, All-push, All-tail, All-take, All-weaker}
+pub use Rattle.std.proofs.lemmas.List.{append_cancel_left, flat_map_more, length-take-le, nil_from_length, take_all, take_more}
 pub use Rattle.std.proofs.lemmas.Result.{err_from_is_err_and}
 pub use Rattle.std.proofs.lemmas.Slice.Eq.{strip_prefix_is, text_from_reads}
-pub use Rattle.std.proofs.lemmas.Str.{digit_value-digit_char, digit_value_digit}
 pub use Rattle.std.proofs.lemmas.Str.Parse.{digit_from_value, numerals_by_value, tells_digits}
+pub use Rattle.std.proofs.lemmas.Str.{digit_value-digit_char, digit_value_digit}
 pub use Rattle.std.specs.Char.{digit_char, digit_value}
 pub use Rattle.std.specs.Fmt.{decimal, signed_decimal}
 pub use Rattle.std.specs.Int.Signed.{mag}
 pub use Rattle.std.specs.Io.KnownBytes.{Appends, Consumes, Keeps}
 pub use Rattle.std.specs.Prelude.{IfSome, MatchOption, ◌↔◌}
-pub use Rattle.std.specs.Str.{bytes_eq}
 pub use Rattle.std.specs.Str.Parse.{AllDigits, digits_value}
+pub use Rattle.std.specs.Str.{bytes_eq}
+pub use mir.Syntax.{w32}

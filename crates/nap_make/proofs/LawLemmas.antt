@@ -1,29 +1,20 @@
-use Rattle.nap_make.proofs.Common.{All, All-append, All-cons, All-head, All-nil, All-tail, All-weaker, AllInRange, BeginsNoPoint, Coordinates, Entry, Fields, HasFields, HasPoints, InRange, IsInSquare, IsNameAlone, IsPlainStep, Kind, List, None, Option, Some, Sort, TextStep, Value, [], ap, append_assoc, ap₂, arith, codes, false, field_text, fields_line, fields_of, fields_text, get_or, inl, inr, kind_row, line, line_name, lines, point_text, points_before, refl, step_text, subst, sym, true, with_word, ℕ, ◌++◌, ◌<◌, ◌∙◌, ◌∷◌, ◌≡◌, ◌≢◌, ◌⊎◌}
-use Rattle.nap_codes.specs.declared.control.TextStep.TheVariants as steps
-use Rattle.nap_list.specs.declared.attribute.Area.TheVariants as areas
-use Rattle.nap_list.specs.declared.entry.Entry.TheVariants as entry
-use Rattle.nap_make.specs.declared.field.Sort.TheVariants as sorts
-use Rattle.nap_make.specs.declared.field.Value.TheVariants as values
-use Rattle.nap_make.specs.declared.kind.Kind.TheVariants as kinds
-use Rattle.nap_make.proofs.CutLemmas.{no_cut, one_cut}
+use Rattle.nap_make.proofs.Common.{All, All-append, All-cons, All-head, All-nil, All-tail, All-weaker, AllInRange, Area, BeginsNoPoint, ColourInRange, Coordinates, Entry, Fields, HasFields, HasPoints, InRange, IsInRange, IsInSquare, IsNameAlone, IsPlainStep, Kind, List, None, Option, PenInRange, Some, Sort, TextInRange, TextStep, TextureInRange, Value, [], ap, append_assoc, ap₂, arith, codes, colour_text, false, field_text, fields_line, fields_of, fields_text, get_or, inl, inr, kind_row, line, line_name, lines, look_text, move_text, pen_text, point_text, points_before, refl, step_text, subst, sym, texture_text, true, with_word, ℕ, ◌++◌, ◌<◌, ◌∙◌, ◌∷◌, ◌≡◌, ◌≢◌, ◌⊎◌}
+use Rattle.nap_make.proofs.CutLemmas.{no_cut, one_cut, Tells}
 use Rattle.nap_make.proofs.EntryLemmas.{LineIs, alone_is, line_is, same_entry}
-use Rattle.nap_make.proofs.KindLemmas.{name_visible, one_kind}
-use Rattle.nap_make.proofs.LayoutLemmas.{Tells}
-use Rattle.nap_make.proofs.LineLemmas.{FieldsChosen, alone_whole, fields_chosen}
-use Rattle.nap_make.proofs.PlaceLemmas.{point_tells, point_visible}
-use Rattle.nap_make.proofs.ShapeLemmas.{fields_no_point, point_apart}
-use Rattle.nap_make.proofs.SortLemmas.{AreOf, InType, field_visible, type_apart}
-use Rattle.nap_make.proofs.SpellLemmas.{IsVisible, above}
-use Rattle.nap_make.proofs.TellLemmas.{addr_tells, code_tells, colour_field_tells, cursor_tells, grb_tells, look_field_tells, mask_tells, pel_field_tells, pen_field_tells, set_tells, texture_field_tells, times_tell, word_tells}
+use Rattle.nap_make.proofs.RowLemmas.{name_visible, one_kind, AreOf, InType, field_visible, type_apart}
+use Rattle.nap_make.proofs.LineLemmas.{FieldsChosen, alone_whole, fields_chosen, fields_no_point, point_apart}
+use Rattle.nap_make.proofs.AttributeLemmas.{move_tells, point_tells, point_visible}
+use Rattle.nap_make.proofs.NumberLemmas.{IsVisible, above}
+use Rattle.nap_make.proofs.TellLemmas.{addr_tells, code_tells, colour_tells, cursor_tells, grb_tells, key_tells, look_tells, mask_tells, pen_tells, set_tells, texture_tells, times_tell, word_tells}
 
 -- Entries in the ranges of their types, by the fields of their lines.
 
 -- the points of a kind are in the unit screen, or there are none
 abbrev pub PointsOf : Kind → List Coordinates → Type 0
-PointsOf kinds.ArcOutlined points = All IsInSquare points
-PointsOf kinds.ArcFilled points = All IsInSquare points
-PointsOf kinds.PolyOutlined points = All IsInSquare points
-PointsOf kinds.PolyFilled points = All IsInSquare points
+PointsOf Kind.ArcOutlined points = All IsInSquare points
+PointsOf Kind.ArcFilled points = All IsInSquare points
+PointsOf Kind.PolyOutlined points = All IsInSquare points
+PointsOf Kind.PolyFilled points = All IsInSquare points
 PointsOf _ points = points ≡ []
 
 abbrev pub FieldsOf : Option Fields → Type 0
@@ -31,33 +22,30 @@ FieldsOf None = Unit {0}
 FieldsOf (Some f) = AreOf (kind_row f.kind) f.values × PointsOf f.kind f.points
 
 pub fields_in_range : (e : Entry) → InRange e → FieldsOf (fields_of e)
-fields_in_range (entry.Point at pel colour) fits = ((fits.0, (fits.1, (fits.2, tt))), refl)
-fields_in_range (entry.Line from to ink) fits = ((fits.0, (fits.1, (fits.2.pel, (fits.2.colour, (fits.2.texture, tt))))), refl)
-fields_in_range (entry.Arc true points ink) fits = ((fits.1.pel, (fits.1.colour, (fits.1.texture, tt))), fits.0)
-fields_in_range (entry.Arc false points ink) fits = ((fits.1.pel, (fits.1.colour, (fits.1.texture, tt))), fits.0)
-fields_in_range (entry.Rect true from to ink) fits = ((fits.0, (fits.1, (fits.2.pel, (fits.2.colour, (fits.2.texture, tt))))), refl)
-fields_in_range (entry.Rect false from to ink) fits = ((fits.0, (fits.1, (fits.2.pel, (fits.2.colour, (fits.2.texture, tt))))), refl)
-fields_in_range (entry.Poly true points ink) fits = ((fits.1.pel, (fits.1.colour, (fits.1.texture, tt))), fits.0)
-fields_in_range (entry.Poly false points ink) fits = ((fits.1.pel, (fits.1.colour, (fits.1.texture, tt))), fits.0)
-fields_in_range (entry.Char set code hand) fits = ((tt, (fits.0, (fits.1.pen, (fits.1.colour, (fits.1.text, tt))))), refl)
-fields_in_range (entry.TextMove (steps.Aps row column) hand) fits = ((fits.0.0, (fits.0.1, (fits.1.pen, (fits.1.colour, (fits.1.text, tt))))), refl)
-fields_in_range (entry.TextMove step hand) fits = ((tt, (fits.1.pen, (fits.1.colour, (fits.1.text, tt)))), refl)
-fields_in_range (entry.ToEol hand) fits = ((fits.pen, (fits.colour, (fits.text, tt))), refl)
-fields_in_range (entry.Map addr grb) fits = ((fits.0, (fits.1, tt)), refl)
-fields_in_range (entry.Blink addr on off delay colour) fits = ((fits.0, ((fits.1, fits.2, fits.3), (fits.4, tt))), refl)
-fields_in_range (entry.BlinkEnd colour) fits = ((fits, tt), refl)
-fields_in_range (entry.BlinkMark true colour) fits = ((fits, tt), refl)
-fields_in_range (entry.BlinkMark false colour) fits = ((fits, tt), refl)
-fields_in_range (entry.Wait tenths) fits = ((fits, tt), refl)
-fields_in_range entry.Bell fits = tt
-fields_in_range (entry.Cursor state) fits = ((tt, tt), refl)
-fields_in_range (entry.Field areas.Whole pen) fits = ((fits.1, tt), refl)
-fields_in_range (entry.Field (areas.Part from to) pen) fits = ((fits.0.0, (fits.0.1, (fits.1, tt))), refl)
-fields_in_range (entry.Reset first second pen) fits = ((fits.0, (fits.1, (fits.2, tt))), refl)
-fields_in_range (entry.Clear pen) fits = ((fits, tt), refl)
-fields_in_range (entry.GlyphStart code) fits = ((fits, tt), refl)
-fields_in_range (entry.MaskStart mask) fits = ((tt, tt), refl)
-fields_in_range entry.DefEnd fits = tt
+fields_in_range (Entry.Point at pel colour) fits = ((fits.0, (fits.1, (fits.2, tt))), refl)
+fields_in_range (Entry.Line from to ink) fits = ((fits.0, (fits.1, (fits.2.pel, (fits.2.colour, (fits.2.texture, tt))))), refl)
+fields_in_range (Entry.Arc true points ink) fits = ((fits.1.pel, (fits.1.colour, (fits.1.texture, tt))), fits.0)
+fields_in_range (Entry.Arc false points ink) fits = ((fits.1.pel, (fits.1.colour, (fits.1.texture, tt))), fits.0)
+fields_in_range (Entry.Rect true from to ink) fits = ((fits.0, (fits.1, (fits.2.pel, (fits.2.colour, (fits.2.texture, tt))))), refl)
+fields_in_range (Entry.Rect false from to ink) fits = ((fits.0, (fits.1, (fits.2.pel, (fits.2.colour, (fits.2.texture, tt))))), refl)
+fields_in_range (Entry.Poly true points ink) fits = ((fits.1.pel, (fits.1.colour, (fits.1.texture, tt))), fits.0)
+fields_in_range (Entry.Poly false points ink) fits = ((fits.1.pel, (fits.1.colour, (fits.1.texture, tt))), fits.0)
+fields_in_range (Entry.Char set code hand) fits = ((tt, (fits.0, (fits.1.pen, (fits.1.colour, (fits.1.text, tt))))), refl)
+fields_in_range (Entry.TextMove (TextStep.Aps row column) hand) fits = ((fits.0.0, (fits.0.1, (fits.1.pen, (fits.1.colour, (fits.1.text, tt))))), refl)
+fields_in_range (Entry.TextMove step hand) fits = ((tt, (fits.1.pen, (fits.1.colour, (fits.1.text, tt)))), refl)
+fields_in_range (Entry.ToEol hand) fits = ((fits.pen, (fits.colour, (fits.text, tt))), refl)
+fields_in_range (Entry.Map addr grb) fits = ((fits.0, (fits.1, tt)), refl)
+fields_in_range (Entry.Blink addr on off delay colour) fits = ((fits.0, ((fits.1, fits.2, fits.3), (fits.4, tt))), refl)
+fields_in_range (Entry.BlinkMark true colour) fits = ((fits, tt), refl)
+fields_in_range (Entry.BlinkMark false colour) fits = ((fits, tt), refl)
+fields_in_range Entry.Bell fits = tt
+fields_in_range (Entry.Cursor state) fits = ((tt, tt), refl)
+fields_in_range (Entry.Field Area.Whole pen) fits = ((fits.1, tt), refl)
+fields_in_range (Entry.Field (Area.Part from to) pen) fits = ((fits.0.0, (fits.0.1, (fits.1, tt))), refl)
+fields_in_range (Entry.Reset first second pen) fits = ((fits.0, (fits.1, (fits.2, tt))), refl)
+fields_in_range (Entry.MaskStart mask) fits = ((tt, tt), refl)
+fields_in_range Entry.DefEnd fits = tt
+fields_in_range _ fits = ((fits, tt), refl)
 
 -- Values with equal texts are equal.
 
@@ -65,33 +53,33 @@ plain_tells : Tells IsPlainStep step_text
 plain_tells s t s_fits t_fits is = by s t s_fits t_fits (ap (λ (xs : List ℕ). get_or xs 2 0) is)
   where
     by : (s t : TextStep) → IsPlainStep s → IsPlainStep t → get_or (step_text s) 2 0 ≡ get_or (step_text t) 2 0 → s ≡ t
-    by (steps.Aps row column) t s_fits t_fits same = absurd s_fits
-    by s (steps.Aps row column) s_fits t_fits same = absurd t_fits
-    by steps.Apb steps.Apb s_fits t_fits same = refl
-    by steps.Apf steps.Apf s_fits t_fits same = refl
-    by steps.Apd steps.Apd s_fits t_fits same = refl
-    by steps.Apu steps.Apu s_fits t_fits same = refl
-    by steps.Apr steps.Apr s_fits t_fits same = refl
-    by steps.Aph steps.Aph s_fits t_fits same = refl
+    by (TextStep.Aps row column) t s_fits t_fits same = absurd s_fits
+    by s (TextStep.Aps row column) s_fits t_fits same = absurd t_fits
+    by TextStep.Apb TextStep.Apb s_fits t_fits same = refl
+    by TextStep.Apf TextStep.Apf s_fits t_fits same = refl
+    by TextStep.Apd TextStep.Apd s_fits t_fits same = refl
+    by TextStep.Apu TextStep.Apu s_fits t_fits same = refl
+    by TextStep.Apr TextStep.Apr s_fits t_fits same = refl
+    by TextStep.Aph TextStep.Aph s_fits t_fits same = refl
     by s t s_fits t_fits same = absurd (omega (arith, same))
 
 field_tells : (s : Sort) (v w : Value) → InType s v → InType s w → field_text v ≡ field_text w → v ≡ w
-field_tells sorts.Addr (values.Addr a) (values.Addr b) v_fits w_fits is = ap values.Addr (addr_tells a b v_fits w_fits is)
-field_tells sorts.Code (values.Code a) (values.Code b) v_fits w_fits is = ap values.Code (code_tells a b v_fits w_fits is)
-field_tells sorts.Colour (values.Colour a) (values.Colour b) v_fits w_fits is = ap values.Colour (colour_field_tells a b v_fits w_fits is)
-field_tells sorts.Cursor (values.Cursor a) (values.Cursor b) v_fits w_fits is = ap values.Cursor (cursor_tells a b tt tt is)
-field_tells sorts.Look (values.Look a) (values.Look b) v_fits w_fits is = ap values.Look (look_field_tells a b v_fits w_fits is)
-field_tells sorts.Mask (values.Mask a) (values.Mask b) v_fits w_fits is = ap values.Mask (mask_tells a b tt tt is)
-field_tells sorts.Parts (values.Parts a) (values.Parts b) v_fits w_fits is = ap values.Parts (grb_tells a b v_fits w_fits is)
-field_tells sorts.Pel (values.Pel a) (values.Pel b) v_fits w_fits is = ap values.Pel (pel_field_tells a b v_fits w_fits is)
-field_tells sorts.Pen (values.Pen a) (values.Pen b) v_fits w_fits is = ap values.Pen (pen_field_tells a b v_fits w_fits is)
-field_tells sorts.Point (values.Point a) (values.Point b) v_fits w_fits is = ap values.Point (point_tells a b v_fits w_fits is)
-field_tells sorts.Set (values.Set a) (values.Set b) v_fits w_fits is = ap values.Set (set_tells a b tt tt is)
-field_tells sorts.Step (values.Step a) (values.Step b) v_fits w_fits is = ap values.Step (plain_tells a b v_fits w_fits is)
-field_tells sorts.Texture (values.Texture a) (values.Texture b) v_fits w_fits is = ap values.Texture (texture_field_tells a b v_fits w_fits is)
-field_tells sorts.Times (values.Times a b c) (values.Times d e f) v_fits w_fits is =
-    ap (λ (t : ℕ × (ℕ × ℕ)). values.Times t.0 t.1.0 t.1.1) (times_tell (a, (b, c)) (d, (e, f)) (v_fits.0, (v_fits.1, v_fits.2)) (w_fits.0, (w_fits.1, w_fits.2)) is)
-field_tells sorts.Word (values.Word a) (values.Word b) v_fits w_fits is = ap values.Word (word_tells a b v_fits w_fits is)
+field_tells Sort.Addr (Value.Addr a) (Value.Addr b) v_fits w_fits is = ap Value.Addr (addr_tells a b v_fits w_fits is)
+field_tells Sort.Code (Value.Code a) (Value.Code b) v_fits w_fits is = ap Value.Code (code_tells a b v_fits w_fits is)
+field_tells Sort.Colour (Value.Colour a) (Value.Colour b) v_fits w_fits is = ap Value.Colour (key_tells ColourInRange colour_text (codes "colour=") colour_tells a b v_fits w_fits is)
+field_tells Sort.Cursor (Value.Cursor a) (Value.Cursor b) v_fits w_fits is = ap Value.Cursor (cursor_tells a b tt tt is)
+field_tells Sort.Look (Value.Look a) (Value.Look b) v_fits w_fits is = ap Value.Look (key_tells TextInRange look_text (codes "text=") look_tells a b v_fits w_fits is)
+field_tells Sort.Mask (Value.Mask a) (Value.Mask b) v_fits w_fits is = ap Value.Mask (mask_tells a b tt tt is)
+field_tells Sort.Parts (Value.Parts a) (Value.Parts b) v_fits w_fits is = ap Value.Parts (grb_tells a b v_fits w_fits is)
+field_tells Sort.Pel (Value.Pel a) (Value.Pel b) v_fits w_fits is = ap Value.Pel (key_tells IsInRange move_text (codes "pel=") move_tells a b v_fits w_fits is)
+field_tells Sort.Pen (Value.Pen a) (Value.Pen b) v_fits w_fits is = ap Value.Pen (key_tells PenInRange pen_text (codes "pen=") pen_tells a b v_fits w_fits is)
+field_tells Sort.Point (Value.Point a) (Value.Point b) v_fits w_fits is = ap Value.Point (point_tells a b v_fits w_fits is)
+field_tells Sort.Set (Value.Set a) (Value.Set b) v_fits w_fits is = ap Value.Set (set_tells a b tt tt is)
+field_tells Sort.Step (Value.Step a) (Value.Step b) v_fits w_fits is = ap Value.Step (plain_tells a b v_fits w_fits is)
+field_tells Sort.Texture (Value.Texture a) (Value.Texture b) v_fits w_fits is = ap Value.Texture (key_tells TextureInRange texture_text (codes "texture=") texture_tells a b v_fits w_fits is)
+field_tells Sort.Times (Value.Times a b c) (Value.Times d e f) v_fits w_fits is =
+    ap (λ (t : ℕ × (ℕ × ℕ)). Value.Times t.0 t.1.0 t.1.1) (times_tell (a, (b, c)) (d, (e, f)) (v_fits.0, (v_fits.1, v_fits.2)) (w_fits.0, (w_fits.1, w_fits.2)) is)
+field_tells Sort.Word (Value.Word a) (Value.Word b) v_fits w_fits is = ap Value.Word (word_tells a b v_fits w_fits is)
 field_tells s v w v_fits w_fits is = absurd (let no : ⊥ = search in no)
 
 fields_tell : (row : List Sort) (vs us : List Value) → AreOf row vs → AreOf row us → fields_text vs ≡ fields_text us → vs ≡ us
@@ -117,10 +105,10 @@ points_tell (p ∷ ps) (q ∷ qs) a b one two none also is =
 
 -- whether a kind has points
 points_or_none : (k : Kind) → (HasPoints k × ((ps : List Coordinates) → PointsOf k ps → All IsInSquare ps)) ⊎ ((ps : List Coordinates) → PointsOf k ps → ps ≡ [])
-points_or_none kinds.ArcOutlined = inl (tt, λ ps of. of)
-points_or_none kinds.ArcFilled = inl (tt, λ ps of. of)
-points_or_none kinds.PolyOutlined = inl (tt, λ ps of. of)
-points_or_none kinds.PolyFilled = inl (tt, λ ps of. of)
+points_or_none Kind.ArcOutlined = inl (tt, λ ps of. of)
+points_or_none Kind.ArcFilled = inl (tt, λ ps of. of)
+points_or_none Kind.PolyOutlined = inl (tt, λ ps of. of)
+points_or_none Kind.PolyFilled = inl (tt, λ ps of. of)
 points_or_none k = inr (λ ps of. of)
 
 fields_same : (k : Kind) (ps qs : List Coordinates) (vs us : List Value) → PointsOf k ps → PointsOf k qs → AreOf (kind_row k) vs → AreOf (kind_row k) us → points_before ps (fields_text vs) ≡ points_before qs (fields_text us) → (ps ≡ qs) × (vs ≡ us)
@@ -134,7 +122,7 @@ fields_same k ps qs vs us one two vs_are us_are is = by (points_or_none k)
         let texts = ap (λ (xs : List Coordinates). points_before xs (fields_text vs)) (sym (none ps one)) ∙ is ∙ ap (λ (xs : List Coordinates). points_before xs (fields_text us)) (none qs two) in
         (none ps one ∙ sym (none qs two), fields_tell (kind_row k) vs us vs_are us_are texts)
 
-alone_tells : (e g : Entry) → (e ≡ entry.Bell) ⊎ (e ≡ entry.DefEnd) → (g ≡ entry.Bell) ⊎ (g ≡ entry.DefEnd) → line e ≡ line g → e ≡ g
+alone_tells : (e g : Entry) → (e ≡ Entry.Bell) ⊎ (e ≡ Entry.DefEnd) → (g ≡ Entry.Bell) ⊎ (g ≡ Entry.DefEnd) → line e ≡ line g → e ≡ g
 alone_tells e g (inl one) (inl two) is = one ∙ sym two
 alone_tells e g (inr one) (inr two) is = one ∙ sym two
 alone_tells e g (inl one) (inr two) is = let first : 66 ≡ 69 = ap (λ (s : List ℕ). get_or s 0 0) (sym (ap line one) ∙ is ∙ ap line two) in absurd (omega (arith, first))
@@ -177,8 +165,7 @@ fields_in [] [] are = All-nil IsInLine
 fields_in (s ∷ row) (v ∷ []) are = in_line (field_text v) (field_visible s v are.0)
 fields_in (s ∷ row) (v ∷ w ∷ vs) are =
     All-append IsInLine (field_text v) (32 ∷ fields_text (w ∷ vs)) (in_line (field_text v) (field_visible s v are.0)) (All-cons IsInLine 32 (fields_text (w ∷ vs)) (omega arith) (fields_in row (w ∷ vs) are.1))
-fields_in [] (v ∷ vs) are = absurd are
-fields_in (s ∷ row) [] are = absurd are
+fields_in _ _ are = absurd are
 
 points_in : (points : List Coordinates) (last : List ℕ) → All IsInSquare points → All IsInLine last → All IsInLine (points_before points last)
 points_in [] last fit all = all
@@ -187,8 +174,8 @@ points_in (p ∷ points) last fit all =
     (All-cons IsInLine 32 (points_before points last) (omega arith) (points_in points last (All-tail IsInSquare p points fit) all))
 
 word_in : (k : Kind) (rest : List ℕ) → All IsInLine rest → All IsInLine (with_word k rest)
-word_in kinds.Position rest all = All-append IsInLine (codes "APS ") rest (above 31 (codes "APS ") (omega arith)) all
-word_in kinds.Whole rest all = All-append IsInLine (codes "whole ") rest (above 31 (codes "whole ") (omega arith)) all
+word_in Kind.Position rest all = All-append IsInLine (codes "APS ") rest (above 31 (codes "APS ") (omega arith)) all
+word_in Kind.Whole rest all = All-append IsInLine (codes "whole ") rest (above 31 (codes "whole ") (omega arith)) all
 word_in k rest all = all
 
 pub points_inside : (k : Kind) (points : List Coordinates) → PointsOf k points → All IsInSquare points

@@ -1,14 +1,9 @@
-use Rattle.nap_make.proofs.Common.{All, All-head, Coordinates, Entry, Fields, FitsSort, HasFields, HasPoints, InRange, IsChosen, IsFirstWrong, IsInSquare, IsNameAlone, IsProper, IsWritten, Kind, List, None, Option, Some, Value, WritesNone, [], ap, arith, codes, false, fields_line, fields_of, fields_text, get_or, inl, inr, kind_row, line, line_from, line_name, point_text, points_before, refl, subst, sym, true, with_word, ℕ, ◌++◌, ◌<◌, ◌∙◌, ◌∷◌, ◌≡◌, ◌≢◌, ◌≤◌, ◌⊎◌}
-use Rattle.nap_codes.specs.declared.control.TextStep.TheVariants as steps
-use Rattle.nap_list.specs.declared.attribute.Area.TheVariants as areas
-use Rattle.nap_list.specs.declared.entry.Entry.TheVariants as entry
-use Rattle.nap_make.specs.declared.kind.Kind.TheVariants as kinds
-use Rattle.nap_make.proofs.CutLemmas.{no_cut}
+use Rattle.nap_make.proofs.Common.{All, All-append, All-cons, All-head, All-nil, All-tail, Area, BeginsNoPoint, Coordinates, EndsPoints, Entry, Fields, FitsSort, HasFields, HasPoints, InRange, IsChosen, IsFirstWrong, IsInSquare, IsNameAlone, IsProper, IsWritten, Kind, List, None, Option, Some, Sort, SplitsAtByte, TextStep, Value, WritesNone, [], ap, append_assoc, arith, codes, false, fields_line, fields_of, fields_text, get_or, inl, inr, kind_row, least_points, length, length-append, line, line_from, line_name, point_text, points_before, points_limit, refl, subst, sym, true, with_word, ℕ, ◌++◌, ◌+◌, ◌<◌, ◌∙◌, ◌∷◌, ◌≡◌, ◌≢◌, ◌≤◌, ◌⊎◌}
+use Rattle.nap_make.proofs.AttributeLemmas.{point_spells, point_visible}
+use Rattle.nap_make.proofs.CutLemmas.{cut_text, no_cut, one_cut}
 use Rattle.nap_make.proofs.EntryLemmas.{AreFields, FieldsFit, LineIs, PointsFit, fields_fit, line_is}
-use Rattle.nap_make.proofs.KindLemmas.{one_kind}
-use Rattle.nap_make.proofs.PlaceLemmas.{point_spells}
-use Rattle.nap_make.proofs.RowLemmas.{none_in_row}
-use Rattle.nap_make.proofs.SpellLemmas.{above, apart_below}
+use Rattle.nap_make.proofs.NumberLemmas.{above, apart_below, spaceless}
+use Rattle.nap_make.proofs.RowLemmas.{AreOf, fits_are, none_in_row, one_kind}
 
 -- Lines by their kinds.
 
@@ -27,23 +22,23 @@ FieldsChosen (Some f) = IsChosen f.kind (points_before f.points (fields_text f.v
 
 -- no word that tells kinds apart comes first in an entry's fields
 pub fields_chosen : (e : Entry) → InRange e → FieldsChosen (fields_of e)
-fields_chosen (entry.TextMove (steps.Aps row column) hand) fits = tt
-fields_chosen (entry.TextMove steps.Apb hand) fits = λ more is. let third : 66 ≡ 83 = ap (λ (s : List ℕ). get_or s 2 0) is in omega (arith, third)
-fields_chosen (entry.TextMove steps.Apf hand) fits = λ more is. let third : 70 ≡ 83 = ap (λ (s : List ℕ). get_or s 2 0) is in omega (arith, third)
-fields_chosen (entry.TextMove steps.Apd hand) fits = λ more is. let third : 68 ≡ 83 = ap (λ (s : List ℕ). get_or s 2 0) is in omega (arith, third)
-fields_chosen (entry.TextMove steps.Apu hand) fits = λ more is. let third : 85 ≡ 83 = ap (λ (s : List ℕ). get_or s 2 0) is in omega (arith, third)
-fields_chosen (entry.TextMove steps.Apr hand) fits = λ more is. let third : 82 ≡ 83 = ap (λ (s : List ℕ). get_or s 2 0) is in omega (arith, third)
-fields_chosen (entry.TextMove steps.Aph hand) fits = λ more is. let third : 72 ≡ 83 = ap (λ (s : List ℕ). get_or s 2 0) is in omega (arith, third)
-fields_chosen (entry.Field areas.Whole pen) fits = tt
-fields_chosen (entry.Field (areas.Part from to) pen) fits = λ more is. other_start 119 (point_text from) _ (codes "hole " ++ more) (omega arith) (point_without 119 (omega arith) from fits.0.0) is
-fields_chosen (entry.Arc true points ink) fits = tt
-fields_chosen (entry.Arc false points ink) fits = tt
-fields_chosen (entry.Rect true from to ink) fits = tt
-fields_chosen (entry.Rect false from to ink) fits = tt
-fields_chosen (entry.Poly true points ink) fits = tt
-fields_chosen (entry.Poly false points ink) fits = tt
-fields_chosen (entry.BlinkMark true colour) fits = tt
-fields_chosen (entry.BlinkMark false colour) fits = tt
+fields_chosen (Entry.TextMove (TextStep.Aps row column) hand) fits = tt
+fields_chosen (Entry.TextMove TextStep.Apb hand) fits = λ more is. let third : 66 ≡ 83 = ap (λ (s : List ℕ). get_or s 2 0) is in omega (arith, third)
+fields_chosen (Entry.TextMove TextStep.Apf hand) fits = λ more is. let third : 70 ≡ 83 = ap (λ (s : List ℕ). get_or s 2 0) is in omega (arith, third)
+fields_chosen (Entry.TextMove TextStep.Apd hand) fits = λ more is. let third : 68 ≡ 83 = ap (λ (s : List ℕ). get_or s 2 0) is in omega (arith, third)
+fields_chosen (Entry.TextMove TextStep.Apu hand) fits = λ more is. let third : 85 ≡ 83 = ap (λ (s : List ℕ). get_or s 2 0) is in omega (arith, third)
+fields_chosen (Entry.TextMove TextStep.Apr hand) fits = λ more is. let third : 82 ≡ 83 = ap (λ (s : List ℕ). get_or s 2 0) is in omega (arith, third)
+fields_chosen (Entry.TextMove TextStep.Aph hand) fits = λ more is. let third : 72 ≡ 83 = ap (λ (s : List ℕ). get_or s 2 0) is in omega (arith, third)
+fields_chosen (Entry.Field Area.Whole pen) fits = tt
+fields_chosen (Entry.Field (Area.Part from to) pen) fits = λ more is. other_start 119 (point_text from) _ (codes "hole " ++ more) (omega arith) (point_without 119 (omega arith) from fits.0.0) is
+fields_chosen (Entry.Arc true points ink) fits = tt
+fields_chosen (Entry.Arc false points ink) fits = tt
+fields_chosen (Entry.Rect true from to ink) fits = tt
+fields_chosen (Entry.Rect false from to ink) fits = tt
+fields_chosen (Entry.Poly true points ink) fits = tt
+fields_chosen (Entry.Poly false points ink) fits = tt
+fields_chosen (Entry.BlinkMark true colour) fits = tt
+fields_chosen (Entry.BlinkMark false colour) fits = tt
 fields_chosen e fits = tt
 
 -- a name alone has no space
@@ -96,10 +91,10 @@ of_kind e k rest proper chosen is =
     }
 
 no_points : (k : Kind) (points : List Coordinates) → (HasPoints k → ⊥) → PointsFit k points → points ≡ []
-no_points kinds.ArcOutlined points none fit = absurd (none tt)
-no_points kinds.ArcFilled points none fit = absurd (none tt)
-no_points kinds.PolyOutlined points none fit = absurd (none tt)
-no_points kinds.PolyFilled points none fit = absurd (none tt)
+no_points Kind.ArcOutlined points none fit = absurd (none tt)
+no_points Kind.ArcFilled points none fit = absurd (none tt)
+no_points Kind.PolyOutlined points none fit = absurd (none tt)
+no_points Kind.PolyFilled points none fit = absurd (none tt)
 no_points k points none fit = fit
 
 -- no entry has a line of a kind without points with a wrong field
@@ -111,3 +106,112 @@ none_plain k rest left plain chosen first e proper is =
 -- an entry with these fields has their line
 pub fields_written : (e : Entry) (k : Kind) (points : List Coordinates) (vs : List Value) (rest : List ℕ) → IsProper e → HasFields k points vs e → rest ≡ points_before points (fields_text vs) → IsWritten IsProper line (line_from k rest) e
 fields_written e k points vs rest proper has is = record { fitting = proper; written = ap (line_from k) is ∙ sym (subst (LineIs e) has (line_is e)) }
+
+-- Points before fields.
+
+pub point_apart : (p : Coordinates) → IsInSquare p → All (λ x. x ≢ 32) (point_text p)
+point_apart = spaceless IsInSquare point_text point_visible
+
+pub points_grow : (points : List Coordinates) (p : Coordinates) (more : List ℕ) → points_before (points ++ p ∷ []) more ≡ points_before points (point_text p ++ 32 ∷ more)
+points_grow [] p more = refl
+points_grow (q ∷ points) p more = ap (λ (s : List ℕ). point_text q ++ 32 ∷ s) (points_grow points p more)
+
+pub points_append : (points : List Coordinates) (a b : List ℕ) → points_before points (a ++ b) ≡ points_before points a ++ b
+points_append [] a b = refl
+points_append (q ∷ points) a b = ap (λ (s : List ℕ). point_text q ++ 32 ∷ s) (points_append points a b) ∙ sym (append_assoc (point_text q) (32 ∷ points_before points a) b)
+
+pub points_join : (ps qs : List Coordinates) (last : List ℕ) → points_before (ps ++ qs) last ≡ points_before ps (points_before qs last)
+points_join [] qs last = refl
+points_join (p ∷ ps) qs last = ap (λ (s : List ℕ). point_text p ++ 32 ∷ s) (points_join ps qs last)
+
+-- The walk.
+
+pub record HasPointsSo (bytes : List ℕ) (points : List Coordinates) (rest : List ℕ) : Type 0 where
+  pub parts : bytes ≡ points_before points rest
+  pub inside : All IsInSquare points
+  pub few : length points ≤ points_limit
+
+pub point_read : (bytes : List ℕ) (points : List Coordinates) (rest : List ℕ) (p : Coordinates) (more : List ℕ) → HasPointsSo bytes points rest → length points < points_limit →
+    IsInSquare p × (rest ≡ point_text p ++ 32 ∷ more) → HasPointsSo bytes (points ++ p ∷ []) more
+point_read bytes points rest p more has below next = record {
+  parts = has.parts ∙ ap (points_before points) next.1 ∙ sym (points_grow points p more);
+  inside = All-append IsInSquare points (p ∷ []) has.inside (All-cons IsInSquare p [] next.0 (All-nil IsInSquare));
+  few = let size : length (points ++ p ∷ []) ≡ length points + 1 = length-append points (p ∷ []) in omega (arith, size, below);
+}
+
+pub no_space_behind : (bytes : List ℕ) → ((x y : List ℕ) → SplitsAtByte 32 bytes x y → ⊥) → BeginsNoPoint bytes
+no_space_behind bytes none p more fits is = none (point_text p) more (record { joins = is; first = point_apart p fits })
+
+pub no_point_first : (bytes word more : List ℕ) → SplitsAtByte 32 bytes word more → WritesNone IsInSquare point_text word → BeginsNoPoint bytes
+no_point_first bytes word more cuts none p others fits is = none p fits (cut_text 32 bytes word more (point_text p) others cuts (point_apart p fits) is).0
+
+-- No shape has a line with a wrong point or field.
+
+-- the fields behind the points of a shape begin no point
+pub fields_no_point : (k : Kind) (vs : List Value) → HasPoints k → AreOf (kind_row k) vs → BeginsNoPoint (fields_text vs)
+fields_no_point k vs has fits = by vs (row_is k has fits)
+  where
+    row_is : (k : Kind) → HasPoints k → AreOf (kind_row k) vs → AreOf (Sort.Pel ∷ Sort.Colour ∷ Sort.Texture ∷ []) vs
+    row_is Kind.ArcOutlined has fits = fits
+    row_is Kind.ArcFilled has fits = fits
+    row_is Kind.PolyOutlined has fits = fits
+    row_is Kind.PolyFilled has fits = fits
+    row_is _ has fits = absurd has
+
+    by : (vs : List Value) → AreOf (Sort.Pel ∷ Sort.Colour ∷ Sort.Texture ∷ []) vs → BeginsNoPoint (fields_text vs)
+    by [] fits = absurd fits
+    by (v ∷ []) fits = absurd fits.1
+    by (Value.Pel pel ∷ w ∷ vs) fits = λ p more inside is. other_start 112 (point_text p) more _ (omega arith) (point_without 112 (omega arith) p inside) (sym is)
+    by (_ ∷ w ∷ vs) fits = absurd fits.0
+
+-- a shape with this line has the points read, and then others
+record GoesOn (points ps : List Coordinates) (rest last : List ℕ) : Type 0 where
+  others : List Coordinates
+  size : length ps ≡ length points + length others
+  inside : All IsInSquare others
+  follows : rest ≡ points_before others last
+
+goes_on : (points ps : List Coordinates) (rest last : List ℕ) → All IsInSquare points → All IsInSquare ps → BeginsNoPoint last → points_before points rest ≡ points_before ps last → GoesOn points ps rest last
+goes_on [] ps rest last fit also none is = record { others = ps; size = omega arith; inside = also; follows = is }
+goes_on (p ∷ points) [] rest last fit also none is = absurd (none p (points_before points rest) (All-head IsInSquare p points fit) (sym is))
+goes_on (p ∷ points) (q ∷ ps) rest last fit also none is =
+    let same = one_cut 32 (point_text p) (points_before points rest) (point_text q) (points_before ps last) (point_apart p (All-head IsInSquare p points fit)) (point_apart q (All-head IsInSquare q ps also)) is in
+    let more = goes_on points ps rest last (All-tail IsInSquare p points fit) (All-tail IsInSquare q ps also) none same.1 in
+    record { others = more.others; size = omega (arith, more.size); inside = more.inside; follows = more.follows }
+
+-- what is wrong behind the points of a shape: there are too few, or a field of the row is
+abbrev pub IsWrongAfter : Kind → List Coordinates → List ℕ → List ℕ → Type 0
+IsWrongAfter k points rest left = ((length points < least_points k) × (left ≡ rest)) ⊎ ((least_points k ≤ length points) × IsFirstWrong (kind_row k) rest left)
+
+shape_points : (k : Kind) (points : List Coordinates) → HasPoints k → PointsFit k points → All IsInSquare points × (least_points k ≤ length points) × (length points ≤ points_limit)
+shape_points Kind.ArcOutlined points has fit = fit
+shape_points Kind.ArcFilled points has fit = fit
+shape_points Kind.PolyOutlined points has fit = fit
+shape_points Kind.PolyFilled points has fit = fit
+shape_points _ points has fit = absurd has
+
+pub shape_fit : (k : Kind) (points : List Coordinates) → HasPoints k → All IsInSquare points → least_points k ≤ length points → length points ≤ points_limit → PointsFit k points
+shape_fit Kind.ArcOutlined points has inside least few = (inside, least, few)
+shape_fit Kind.ArcFilled points has inside least few = (inside, least, few)
+shape_fit Kind.PolyOutlined points has inside least few = (inside, least, few)
+shape_fit Kind.PolyFilled points has inside least few = (inside, least, few)
+shape_fit _ points has inside least few = absurd has
+
+pub shape_chosen : (k : Kind) (rest : List ℕ) → HasPoints k → IsChosen k rest
+shape_chosen Kind.Move rest has = absurd has
+shape_chosen Kind.Field rest has = absurd has
+shape_chosen _ rest has = tt
+
+pub none_shape : (k : Kind) (bytes : List ℕ) (points : List Coordinates) (rest left : List ℕ) → HasPoints k → EndsPoints bytes points rest → IsWrongAfter k points rest left → WritesNone IsProper line (line_from k bytes)
+none_shape k bytes points rest left has ended wrong e proper is =
+    let own = of_kind e k bytes proper (shape_chosen k bytes has) is in
+    let fit = shape_points k own.points has own.points_fit in
+    let goes = goes_on points own.points rest (fields_text own.values) ended.inside fit.0 (fields_no_point k own.values has (fits_are (kind_row k) own.values own.row)) (sym ended.parts ∙ own.follows) in
+    by own.values own.row goes.others (omega (arith, goes.size, fit.1)) (omega (arith, goes.size, fit.2)) goes.inside goes.follows wrong ended.ends
+  where
+    by : (vs : List Value) → FitsSort (kind_row k) vs → (others : List Coordinates) → least_points k ≤ length points + length others → length points + length others ≤ points_limit → All IsInSquare others →
+        rest ≡ points_before others (fields_text vs) → IsWrongAfter k points rest left → (length points ≡ points_limit) ⊎ BeginsNoPoint rest → ⊥
+    by vs row [] least few inside follows (inl short) ends = omega (arith, least, short.0)
+    by vs row [] least few inside follows (inr first) ends = none_in_row (kind_row k) rest left vs first.1 row follows
+    by vs row (q ∷ others) least few inside follows wrong (inl full) = omega (arith, few, full)
+    by vs row (q ∷ others) least few inside follows wrong (inr none) = none q (points_before others (fields_text vs)) (All-head IsInSquare q others inside) follows

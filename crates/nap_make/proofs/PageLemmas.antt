@@ -1,12 +1,69 @@
--- The bytes that an output took of the page which lines make.
+use Rattle.nap_make.proofs.Common.{All-nil, AllFit, Appends, Appends-kept, Bool, Broke, Canonical, ComeFirst, ConcludesPage, DeniesInput, DeniesLines, EachGave, Entry, Err, FeedsFrom, Finishes, Form, Ghosts, Grows, IsCutOff, IsPrefixOf, IsProper, IsReadWhole, Keeps, LineReader, LinesSoFar, List, ListFault, MakeFault, Makes, MakesList, MakesNoList, MakesNone, MakesPage, MakesPart, NoneFailed, Ok, Option, PageFault, Piece, PutsLines, Reading, ReadsNoMore, RefusesLines, RefusesLinesBy, Result, Sends, ShowsNone, SinkTook, Some, StartsText, State, StopsLines, StopsLinesBy, TextEnd, Took, Two, Writes, [], ap, append-nil, append_assoc, arith, count_of, drop, entry_bytes, entry_bytes_after, entry_pieces, false, fault_of_input, fault_of_text, grows_more, header, inl, inr, page_answer, pieces, pieces-append, pieces_bytes, pieces_bytes-append, refl, sending, sending_of, sink_writes_text, start, subst, sym, take, take-append-drop, text, text_end_after, text_end_after_header, took_none, true, walk, ℕ, ◌++◌, ◌∙◌, ◌∷◌, ◌≡◌, ◌≢◌, ◌⊎◌}
+use Rattle.nap_list.specs.declared.device.Outlet as outlet
 
-use Rattle.nap_make.proofs.Common.{All-nil, AllFit, Appends, Appends-kept, Bool, Broke, Canonical, ComeFirst, ConcludesPage, EachGave, Entry, Err, Ghosts, Grows, IsCutOff, IsPrefixOf, IsProper, IsReadWhole, Keeps, LinesSoFar, List, ListFault, MakeFault, Makes, MakesList, MakesNoList, MakesNone, MakesPage, MakesPart, Ok, PageFault, Reading, ReadsNoMore, RefusesLines, RefusesLinesBy, Result, Sends, ShowsNone, SinkTook, StartsText, StopsLinesBy, Took, Writes, [], ap, append-nil, append_assoc, arith, count_of, drop, false, header, inl, inr, page_answer, pieces, pieces_bytes, refl, sending, sending_of, sink_writes_text, start, subst, sym, take, take-append-drop, text, text_end_after_header, true, ℕ, ◌++◌, ◌∙◌, ◌∷◌, ◌≡◌, ◌≢◌, ◌⊎◌}
-use Rattle.nap_list.specs.declared.device.outlet.Outlet as outlet
-use Rattle.nap_canon.specs.declared.form.Form.TheVariants.{Two}
-use Rattle.nap_make.specs.declared.lines.fault.MakeFault.TheVariants as make_faults
-use Rattle.nap_make.specs.declared.lines.fault.ListFault.TheVariants as list_faults
-use Rattle.nap_make.specs.declared.page.PageFault.TheVariants as faults
-use Rattle.nap_make.proofs.TextLemmas.{broken_sink_writes_prefix}
+-- The bytes of a canonical sink that failed during an entry, and how often its output was flushed.
+
+module _ {O : Type 0} (o : outlet.Ghosts O) (w : O) (s : Canonical O) (begins : StartsText o w s) (works : o.failed s.outlet ≡ false) where
+  -- the header was written
+  header_went : Grows (sending o w 0) header (sending_of o s)
+  unfolding pieces_bytes pieces
+  header_went = subst (λ (bytes : List ℕ). Grows (sending o w 0) bytes (sending_of o s)) (append-nil header) (sink_writes_text o w s s [] begins works (took_none o s)).grows
+
+  -- the bytes of entries are those of a text after its header
+  bytes_with_header : (d : List Entry) → entry_bytes s d ≡ pieces_bytes text_end_after_header (pieces Two start d)
+  bytes_with_header d =
+      ap (λ (f : Form). pieces_bytes s.text_end (pieces f s.state d)) begins.form_is
+      ∙ ap (λ (t : TextEnd). pieces_bytes t (pieces Two s.state d)) begins.text_end
+      ∙ ap (λ (u : State). pieces_bytes text_end_after_header (pieces Two u d)) begins.state
+
+  -- the bytes of one more entry
+  next_entry_bytes : (d : List Entry) (e : Entry) → entry_bytes_after s d e ≡ pieces_bytes (text_end_after text_end_after_header (pieces Two start d)) (entry_pieces Two (walk start d) e)
+  next_entry_bytes d e =
+      ap (λ (f : Form). pieces_bytes (text_end_after s.text_end (pieces f s.state d)) (entry_pieces f (walk s.state d) e)) begins.form_is
+      ∙ ap (λ (t : TextEnd). pieces_bytes (text_end_after t (pieces Two s.state d)) (entry_pieces Two (walk s.state d) e)) begins.text_end
+      ∙ ap (λ (u : State). pieces_bytes (text_end_after text_end_after_header (pieces Two u d)) (entry_pieces Two (walk u d) e)) begins.state
+
+  one_piece : (u : State) (e : Entry) → pieces Two u (e ∷ []) ≡ entry_pieces Two u e
+  unfolding pieces
+  one_piece u e = append-nil (entry_pieces Two u e)
+
+  -- the text of one more entry
+  text_more : (d : List Entry) (e : Entry) → text (d ++ e ∷ []) ≡ text d ++ entry_bytes_after s d e
+  text_more d e =
+      let u = walk start d in
+      let text_end = text_end_after text_end_after_header (pieces Two start d) in
+      let prefix = pieces_bytes text_end_after_header (pieces Two start d) in
+      ap (λ (ps : List Piece). header ++ pieces_bytes text_end_after_header ps) (pieces-append Two start d (e ∷ []))
+      ∙ ap (λ (bytes : List ℕ). header ++ bytes) (pieces_bytes-append text_end_after_header (pieces Two start d) (pieces Two u (e ∷ [])))
+      ∙ ap (λ (ps : List Piece). header ++ (prefix ++ pieces_bytes text_end ps)) (one_piece u e)
+      ∙ ap (λ (bytes : List ℕ). header ++ (prefix ++ bytes)) (sym (next_entry_bytes d e))
+      ∙ sym (append_assoc header prefix (entry_bytes_after s d e))
+
+  -- The bytes of a sink that failed during an entry are a prefix of the text of the entries before it and the entry.
+  pub broken_sink_writes_prefix : (t : Canonical O) (d : List Entry) (e : Entry) → Broke o s d e t → (q : List ℕ) × Grows (sending o w 0) q (sending_of o t) × IsPrefixOf q (text (d ++ e ∷ []))
+  broken_sink_writes_prefix t d e broke =
+      let bytes = entry_bytes_after s d e in
+      let part = take broke.part bytes in
+      let all : header ++ (entry_bytes s d ++ part) ≡ text d ++ part =
+      ap (λ (bs : List ℕ). header ++ (bs ++ part)) (bytes_with_header d) ∙ sym (append_assoc header (pieces_bytes text_end_after_header (pieces Two start d)) part) in (
+        text d ++ part,
+        subst (λ (bs : List ℕ). Grows (sending o w 0) bs (sending_of o t)) all (grows_more (sending o w 0) (sending_of o s) (sending_of o t) header (entry_bytes s d ++ part) header_went broke.grows),
+        (
+          drop broke.part bytes,
+          text_more d e ∙ ap (λ (bs : List ℕ). text d ++ bs) (sym (take-append-drop broke.part bytes)) ∙ sym (append_assoc (text d) part (drop broke.part bytes)),
+        ),
+      )
+
+-- the text that a sink wrote to an output that tells its bytes and had none
+pub text_written : {O : Type 0} (o : outlet.Ghosts O) (w : O) (s t : Canonical O) → StartsText o w s → o.failed s.outlet ≡ false → (items : O → List ℕ) →
+    ((u : O) → o.taken u ≡ Some (items u)) → items w ≡ [] → (d : List Entry) → Took o s d t → items t.outlet ≡ text d
+text_written o w s t begins works items tells empty d took =
+    let taken : Appends (o.taken w) (o.taken t.outlet) (text d) = (sink_writes_text o w s t d begins works took).grows.taken in
+    let text_is : Appends (Some (items w)) (Some (items t.outlet)) (text d) =
+    subst (λ (a : Option (List ℕ)). Appends a (Some (items t.outlet)) (text d)) (tells w) (subst (λ (b : Option (List ℕ)). Appends (o.taken w) b (text d)) (tells t.outlet) taken) in
+    text_is ∙ ap (λ (bytes : List ℕ). bytes ++ text d) empty
+
+-- The bytes that an output took of the page which lines make.
 
 -- no lines yet
 no_lines : LinesSoFar [] [] []
@@ -39,12 +96,9 @@ module _ {O : Type 0} (o : outlet.Ghosts O) (w : O) (s : Canonical O) (begins : 
   unbroken : (t : Canonical O) (es : List Entry) → SinkTook g s es t → o.failed t.outlet ≡ true → EachGave p seen
   unbroken t es kept broke = let bad : true ≡ false = sym broke ∙ sym (failed_is t) ∙ kept.works in cc
 
-  refused : (t : Canonical O) (f : MakeFault) (es : List Entry) → f ≢ make_faults.Write → RefusesLines p seen (text es) f → RefusesLinesBy p seen (text es) f
-  refused t (make_faults.Line number column) es own h = h
-  refused t (make_faults.Misfit number) es own h = h
-  refused t (make_faults.Open number opening) es own h = h
-  refused t make_faults.Memory es own h = h
-  refused t make_faults.Write es own h = absurd (own refl)
+  refused : (t : Canonical O) (f : MakeFault) (es : List Entry) → f ≢ MakeFault.Write → RefusesLines p seen (text es) f → RefusesLinesBy p seen (text es) f
+  refused t MakeFault.Write es own h = absurd (own refl)
+  refused t _ es own h = h
 
   -- the list was made
   whole : (t : Canonical O) → IsReadWhole seen p → MakesList g s p t → (q : List ℕ) × WentOut t (Ok tt) q
@@ -59,7 +113,7 @@ module _ {O : Type 0} (o : outlet.Ghosts O) (w : O) (s : Canonical O) (begins : 
   )
 
   -- the lines make no page, and all were read
-  wrong_at_end : (t : Canonical O) (f : MakeFault) → IsReadWhole seen p → MakesNoList g s p t f → (q : List ℕ) × WentOut t (Err (list_faults.Lines f)) q
+  wrong_at_end : (t : Canonical O) (f : MakeFault) → IsReadWhole seen p → MakesNoList g s p t f → (q : List ℕ) × WentOut t (Err (ListFault.Lines f)) q
   wrong_at_end t f read h = (
     text h.entries,
     record {
@@ -74,8 +128,8 @@ module _ {O : Type 0} (o : outlet.Ghosts O) (w : O) (s : Canonical O) (begins : 
   )
 
   -- the lines that were read show that they make none
-  shows_wrong : (t : Canonical O) (f : MakeFault) (es : List Entry) → f ≢ make_faults.Write → EachGave p seen → ComeFirst p es → ShowsNone p es f → SinkTook g s es t →
-      (q : List ℕ) × WentOut t (Err (list_faults.Lines f)) q
+  shows_wrong : (t : Canonical O) (f : MakeFault) (es : List Entry) → f ≢ MakeFault.Write → EachGave p seen → ComeFirst p es → ShowsNone p es f → SinkTook g s es t →
+      (q : List ℕ) × WentOut t (Err (ListFault.Lines f)) q
   shows_wrong t f es own gave first shows kept = (
     text es,
     record {
@@ -89,12 +143,12 @@ module _ {O : Type 0} (o : outlet.Ghosts O) (w : O) (s : Canonical O) (begins : 
     },
   )
 
-  stopped : (t : Canonical O) (f : MakeFault) (es : List Entry) → EachGave p seen → ComeFirst p es → StopsLinesBy g s p es t f → (q : List ℕ) × WentOut t (Err (list_faults.Lines f)) q
-  stopped t (make_faults.Line number column) es gave first h = shows_wrong t (make_faults.Line number column) es (λ is. let bad : ⊥ = cc in bad) gave first h.0 h.1
-  stopped t (make_faults.Misfit number) es gave first h = shows_wrong t (make_faults.Misfit number) es (λ is. let bad : ⊥ = cc in bad) gave first h.0 h.1
-  stopped t (make_faults.Open number opening) es gave first h = shows_wrong t (make_faults.Open number opening) es (λ is. let bad : ⊥ = cc in bad) gave first h.0 h.1
-  stopped t make_faults.Memory es gave first h = shows_wrong t make_faults.Memory es (λ is. let bad : ⊥ = cc in bad) gave first h.0 h.1
-  stopped t make_faults.Write es gave first h =
+  stopped : (t : Canonical O) (f : MakeFault) (es : List Entry) → EachGave p seen → ComeFirst p es → StopsLinesBy g s p es t f → (q : List ℕ) × WentOut t (Err (ListFault.Lines f)) q
+  stopped t (MakeFault.Line number column) es gave first h = shows_wrong t (MakeFault.Line number column) es (λ is. let bad : ⊥ = cc in bad) gave first h.0 h.1
+  stopped t (MakeFault.Misfit number) es gave first h = shows_wrong t (MakeFault.Misfit number) es (λ is. let bad : ⊥ = cc in bad) gave first h.0 h.1
+  stopped t (MakeFault.Open number opening) es gave first h = shows_wrong t (MakeFault.Open number opening) es (λ is. let bad : ⊥ = cc in bad) gave first h.0 h.1
+  stopped t MakeFault.Memory es gave first h = shows_wrong t MakeFault.Memory es (λ is. let bad : ⊥ = cc in bad) gave first h.0 h.1
+  stopped t MakeFault.Write es gave first h =
       let wrote = broken_sink_writes_prefix o w s begins works t es h.0 (broke_is t es h.0 h.2.broke) in
       let here = subst (λ (q : List ℕ). ComeFirst q (es ++ h.0 ∷ [])) (append-nil p) (h.1 []) in (
         wrote.0,
@@ -108,9 +162,9 @@ module _ {O : Type 0} (o : outlet.Ghosts O) (w : O) (s : Canonical O) (begins : 
 
   went_out : (t : Canonical O) (made : Result (Unit {0}) ListFault) → Makes g s p seen t made → (q : List ℕ) × WentOut t made q
   went_out t (Ok done) h = whole t h.0 h.1
-  went_out t (Err (list_faults.Lines f)) (inl h) = wrong_at_end t f h.0 h.1
-  went_out t (Err (list_faults.Lines f)) (inr h) = stopped t f h.2.entries (record { none_failed = h.0; gave = h.1 }) h.2.first h.2.why
-  went_out t (Err list_faults.Read) h = (
+  went_out t (Err (ListFault.Lines f)) (inl h) = wrong_at_end t f h.0 h.1
+  went_out t (Err (ListFault.Lines f)) (inr h) = stopped t f h.2.entries (record { none_failed = h.0; gave = h.1 }) h.2.first h.2.why
+  went_out t (Err ListFault.Read) h = (
     text h.entries,
     record {
       grows = kept_text t h.entries h.kept;
@@ -154,7 +208,7 @@ header_fails o w s begins fails seen gave u answer keeps failed ends =
       drop sent.part header ++ pieces_bytes text_end_after_header (pieces Two start []),
       ap (λ (bytes : List ℕ). bytes ++ pieces_bytes text_end_after_header (pieces Two start [])) (sym (take-append-drop sent.part header)) ∙ append_assoc q (drop sent.part header) (pieces_bytes text_end_after_header (pieces Two start [])),
     ) in
-    let is : answer ≡ Err (faults.Write s.written) = subst (λ (b : Bool). ConcludesPage s.written (Ok tt) b answer) failed ends in (
+    let is : answer ≡ Err (PageFault.Write s.written) = subst (λ (b : Bool). ConcludesPage s.written (Ok tt) b answer) failed ends in (
       q,
       Appends-kept (o.taken w) (o.taken s.outlet) (o.taken u) q sent.grows.taken keeps,
       rw (failed, is) (omega (arith, sent.grows.count), record { entries = []; rest = []; so_far = no_lines; prefix = prefix; left = inr (inr gave) }),
@@ -165,3 +219,85 @@ header_fails o w s begins fails seen gave u answer keeps failed ends =
     none_read : (broke : Bool) → ReadsNoMore broke [] seen
     none_read true = gave
     none_read false = tt
+
+-- Lines in memory, or of an input, make a page in memory, or none.
+
+denies_lines : {S : Type 0} (g : Ghosts S) (s : S) (p : List ℕ) (t : S) (f : MakeFault) → PutsLines g s p t (Err f) → DeniesLines p (fault_of_text f)
+denies_lines g s p t MakeFault.Memory h = tt
+denies_lines g s p t MakeFault.Write h = tt
+denies_lines g s p t _ h = (h.entries, h.why)
+
+module _ {S : Type 0} (g : Ghosts S) (s : S) (p : List ℕ) (t : S) (r : Result ℕ MakeFault) where
+  pub puts_page : (n : ℕ) → PutsLines g s p t r → r ≡ Ok n → Finishes g s p t (Ok n)
+  puts_page n h is = subst (λ (made : Result ℕ MakeFault). PutsLines g s p t made) is h
+
+  pub puts_no_page : (f : MakeFault) → PutsLines g s p t r → r ≡ Err f → DeniesLines p (fault_of_text f)
+  puts_no_page f h is = denies_lines g s p t f (subst (λ (made : Result ℕ MakeFault). PutsLines g s p t made) is h)
+
+-- Lines of an input.
+module _ {S : Type 0} (g : Ghosts S) (s : S) (p : List ℕ) (seen : Reading) (t : S) where
+  refuses : (es : List Entry) (f : MakeFault) → NoneFailed seen → MakesNone p es f → IsReadWhole seen p ⊎ ShowsNone p es f → RefusesLines p seen (text es) f
+  refuses es f none why left = record { none_failed = none; before = es; why = why; text_is = refl; left = left }
+
+  shown : (es : List Entry) (f : MakeFault) → NoneFailed seen → ShowsNone p es f → RefusesLines p seen (text es) f
+  shown es f none shows = refuses es f none (shown_here p es f shows) (inr shows)
+
+  -- the lines of an input make none
+  denies_input : (f : MakeFault) → Makes g s p seen t (Err (ListFault.Lines f)) → DeniesInput p seen (ListFault.Lines (fault_of_text f))
+  denies_input MakeFault.Memory (inl h) = h.0.none_failed
+  denies_input MakeFault.Memory (inr h) = h.0
+  denies_input MakeFault.Write (inl h) = h.0.none_failed
+  denies_input MakeFault.Write (inr h) = h.0
+  denies_input f (inl h) = (text h.1.entries, refuses h.1.entries f h.0.none_failed h.1.why (inl h.0))
+  denies_input f (inr h) = (text h.2.entries, shown h.2.entries f h.0 h.2.why.0)
+
+  pub makes_page : (r : Result (Unit {0}) ListFault) → Makes g s p seen t r → r ≡ Ok tt → IsReadWhole seen p × MakesList g s p t
+  makes_page r h is = subst (λ (made : Result (Unit {0}) ListFault). Makes g s p seen t made) is h
+
+  denied : (f : ListFault) → Makes g s p seen t (Err f) → DeniesInput p seen (fault_of_input f)
+  denied (ListFault.Lines f) h = denies_input f h
+  denied ListFault.Read h = h.cut_off
+
+  pub made_none : (r : Result (Unit {0}) ListFault) (f : ListFault) → Makes g s p seen t r → r ≡ Err f → DeniesInput p seen (fault_of_input f)
+  made_none r f h is = denied f (subst (λ (made : Result (Unit {0}) ListFault). Makes g s p seen t made) is h)
+
+-- What was read of an input or of memory makes a list, or none.
+
+pub makes_none : {S : Type 0} (g : Ghosts S) (s : S) (p : List ℕ) (seen : Reading) (r : LineReader S) (f : ListFault) → FeedsFrom g s p seen r (Err f) → Makes g s p seen r.maker.sink (Err f)
+makes_none g s p seen r (ListFault.Lines fault) h = inr h
+makes_none g s p seen r ListFault.Read h = record {
+  cut_off = h.0;
+  entries = h.2.entries;
+  rest = r.part.items;
+  so_far = record { proper = h.2.holds.proper; fit = h.2.holds.fit; parts = h.2.parts };
+  none = h.1.whole;
+  kept = h.2.holds.kept;
+}
+
+module _ {S : Type 0} (g : Ghosts S) (s : S) (p : List ℕ) (t : S) where
+  -- lines that show that no list has them are no list's
+  shown_none : (f : MakeFault) (es : List Entry) → f ≢ MakeFault.Write → ComeFirst p es → ShowsNone p es f → SinkTook g s es t → MakesNoList g s p t f
+  shown_none f es own first shows kept = record {
+    entries = es;
+    first = first;
+    own = own;
+    why = subst (λ (q : List ℕ). MakesNone q es f) (append-nil p) (shows []);
+    kept = kept;
+  }
+
+  -- the lines are no list's, or the sink failed
+  pub puts_none : (f : MakeFault) → StopsLines g s p t f → PutsLines g s p t (Err f)
+  puts_none (MakeFault.Line number column) h = shown_none (MakeFault.Line number column) h.entries (λ is. let bad : ⊥ = cc in bad) h.first h.why.0 h.why.1
+  puts_none (MakeFault.Misfit number) h = shown_none (MakeFault.Misfit number) h.entries (λ is. let bad : ⊥ = cc in bad) h.first h.why.0 h.why.1
+  puts_none (MakeFault.Open number opening) h = shown_none (MakeFault.Open number opening) h.entries (λ is. let bad : ⊥ = cc in bad) h.first h.why.0 h.why.1
+  puts_none MakeFault.Memory h = shown_none MakeFault.Memory h.entries (λ is. let bad : ⊥ = cc in bad) h.first h.why.0 h.why.1
+  puts_none MakeFault.Write h = h
+
+  -- the lines ended
+  pub puts_all : (r : Result ℕ MakeFault) → Finishes g s p t r → PutsLines g s p t r
+  puts_all (Ok n) h = h
+  puts_all (Err (MakeFault.Line number column)) h = h
+  puts_all (Err (MakeFault.Misfit number)) h = h
+  puts_all (Err (MakeFault.Open number opening)) h = h
+  puts_all (Err MakeFault.Memory) h = h
+  puts_all (Err MakeFault.Write) h = absurd (h.own refl)

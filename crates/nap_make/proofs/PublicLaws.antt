@@ -3,6 +3,8 @@
 use Rattle.nap_make.proofs.Common.{AreLines, Entry, IsAccepted, IsMadeOf, IsReadAs, LineTellsEntry, LinesAreBounded, LinesHaveNoEnds, LinesTellLists, List, ListsAgain, ListsTellStreams, MadePagesAgree, accepted_is_legal, ap, canonical_streams_agree, lines, list_of, read_values_are_in_range, refl, subst, sym, text, text_is_read, ℕ, ◌∙◌, ◌≡◌}
 use Rattle.nap_make.proofs.BoundLemmas as bounds
 use Rattle.nap_make.proofs.LawLemmas as law_lemmas
+pub use Rattle.nap_make.proofs.CutLemmas.{no_cut, one_cut, uncut}
+pub use Rattle.nap_make.proofs.PageLemmas.{text_written}
 
 -- Laws of lines.
 
@@ -16,7 +18,7 @@ pub lines_are_bounded : LinesAreBounded
 lines_are_bounded = bounds.line_bounded
 
 pub lines_have_no_ends : LinesHaveNoEnds
-lines_have_no_ends e proper = law_lemmas.line_whole e proper.in_range
+lines_have_no_ends = law_lemmas.line_whole
 
 -- Laws of the pages that lines make.
 

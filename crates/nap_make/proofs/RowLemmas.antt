@@ -1,6 +1,82 @@
-use Rattle.nap_make.proofs.Common.{All, All-head, All-tail, FitsSort, InSort, IsFirstWrong, IsWrong, List, Sort, SplitsAtByte, Value, WritesNone, [], ap, append_assoc, arith, drop, drop-cons, field_text, fields_before, fields_text, get_or, length, length-append, refl, subst, suc, sym, take, take-append-drop, take_more, ℕ, ◌++◌, ◌+◌, ◌<◌, ◌∙◌, ◌∷◌, ◌≡◌, ◌≢◌}
+use Rattle.nap_make.proofs.Common.{All, All-head, All-tail, BothFit, CharSet, ColourInRange, CursorKind, FitsSort, InSort, IsByte, IsChosen, IsFirstWrong, IsInRange, IsPlainStep, IsWord, IsWrong, Kind, List, Mask, PenInRange, Sort, SplitsAtByte, TextInRange, TextStep, TextureInRange, Value, WritesNone, [], ap, append_assoc, append_cancel_left, arith, bytes_eq, codes, colour_text, cond, cursor_text, decimal, drop, drop-cons, field_text, fields_before, fields_text, get_or, length, length-append, line_from, line_name, look_text, mask_text, move_text, pair_text, pen_text, refl, set_text, step_text, subst, suc, sym, take, take-append-drop, take_more, texture_text, with_word, ℕ, ◌++◌, ◌+◌, ◌<◌, ◌∙◌, ◌∷◌, ◌≡◌, ◌≢◌}
+use Rattle.nap_make.proofs.AttributeLemmas.{colour_visible, grb_visible, look_visible, move_visible, number_visible, pen_visible, point_visible, texture_visible}
 use Rattle.nap_make.proofs.CutLemmas.{cut_text, no_cut, one_cut}
-use Rattle.nap_make.proofs.SortLemmas.{field_apart}
+use Rattle.nap_make.proofs.NumberLemmas.{EachAbove, IsVisible, Spells, above, apart_below, both_spell, code_visible, key_spells}
+
+-- Values by their sorts.
+
+-- the value is of the sort, and in the range of its type: any byte is a code
+abbrev pub InType : Sort → Value → Type 0
+InType Sort.Code (Value.Code code) = IsByte code
+InType s v = InSort s v
+
+pub in_type : (s : Sort) (v : Value) → InSort s v → InType s v
+in_type Sort.Code (Value.Code code) fits = omega (arith, fits)
+in_type _ _ fits = fits
+
+-- No text has a space.
+
+pub set_visible : (set : CharSet) → All IsVisible (set_text set)
+set_visible CharSet.Primary = above 32 (codes "primary") (omega arith)
+set_visible set = above 32 (set_text set) (omega arith)
+
+pub plain_visible : Spells IsVisible IsPlainStep step_text
+plain_visible TextStep.Apb fits = above 32 (codes "APB") (omega arith)
+plain_visible (TextStep.Aps row column) fits = absurd fits
+plain_visible step fits = above 32 (step_text step) (omega arith)
+
+cursor_visible : (state : CursorKind) → All IsVisible (cursor_text state)
+cursor_visible CursorKind.Flash = above 32 (codes "flash") (omega arith)
+cursor_visible state = above 32 (cursor_text state) (omega arith)
+
+mask_visible : (mask : Mask) → All IsVisible (mask_text mask)
+mask_visible Mask.A = above 32 (codes "A") (omega arith)
+mask_visible mask = above 32 (mask_text mask) (omega arith)
+
+word_visible : Spells IsVisible IsWord decimal
+word_visible n fits = number_visible n (omega (arith, fits))
+
+pub field_visible : (s : Sort) (v : Value) → InType s v → All IsVisible (field_text v)
+field_visible Sort.Addr (Value.Addr number) fits = number_visible number fits
+field_visible Sort.Code (Value.Code code) fits = code_visible code fits
+field_visible Sort.Colour (Value.Colour colour) fits = key_spells ColourInRange colour_text (codes "colour=") (omega arith) colour_visible colour fits
+field_visible Sort.Cursor (Value.Cursor state) fits = cursor_visible state
+field_visible Sort.Look (Value.Look look) fits = key_spells TextInRange look_text (codes "text=") (omega arith) look_visible look fits
+field_visible Sort.Mask (Value.Mask mask) fits = mask_visible mask
+field_visible Sort.Parts (Value.Parts grb) fits = grb_visible grb fits
+field_visible Sort.Pel (Value.Pel pel) fits = key_spells IsInRange move_text (codes "pel=") (omega arith) move_visible pel fits
+field_visible Sort.Pen (Value.Pen pen) fits = key_spells PenInRange pen_text (codes "pen=") (omega arith) pen_visible pen fits
+field_visible Sort.Point (Value.Point point) fits = point_visible point fits
+field_visible Sort.Set (Value.Set set) fits = set_visible set
+field_visible Sort.Step (Value.Step step) fits = plain_visible step fits
+field_visible Sort.Texture (Value.Texture texture) fits = key_spells TextureInRange texture_text (codes "texture=") (omega arith) texture_visible texture fits
+field_visible Sort.Times (Value.Times on off delay) fits =
+    both_spell IsVisible IsWord decimal 44 (BothFit IsWord IsWord) (pair_text decimal 44 decimal) word_visible (omega arith)
+    (both_spell IsVisible IsWord decimal 44 IsWord decimal word_visible (omega arith) word_visible) (on, (off, delay)) (fits.0, (fits.1, fits.2))
+field_visible Sort.Word (Value.Word number) fits = word_visible number fits
+field_visible _ _ fits = absurd fits
+
+pub type_apart : (s : Sort) (v : Value) → InType s v → All (λ x. x ≢ 32) (field_text v)
+type_apart s v fits = apart_below 32 32 (field_text v) (omega arith) (field_visible s v fits)
+
+pub field_apart : (s : Sort) (v : Value) → InSort s v → All (λ x. x ≢ 32) (field_text v)
+field_apart s v fits = type_apart s v (in_type s v fits)
+
+-- bytes that are no three words separated by commas are no text of times
+pub no_times : (word : List ℕ) → WritesNone (BothFit IsWord (BothFit IsWord IsWord)) (pair_text decimal 44 (pair_text decimal 44 decimal)) word → WritesNone (InSort Sort.Times) field_text word
+no_times word none (Value.Times on off delay) fits is = none (on, (off, delay)) (fits.0, (fits.1, fits.2)) is
+no_times word none _ fits is = absurd fits
+
+-- values of the sorts of a row, in the ranges of their types
+abbrev pub AreOf : List Sort → List Value → Type 0
+AreOf [] [] = Unit {0}
+AreOf (s ∷ row) (v ∷ vs) = InType s v × AreOf row vs
+AreOf _ _ = ⊥
+
+pub fits_are : (row : List Sort) (vs : List Value) → FitsSort row vs → AreOf row vs
+fits_are [] [] fits = tt
+fits_are (s ∷ row) (v ∷ vs) fits = (in_type s v fits.0, fits_are row vs fits.1)
+fits_are _ _ fits = absurd fits
 
 -- Rows of fields.
 
@@ -20,8 +96,7 @@ before_append (u ∷ vs) a b = ap (λ (s : List ℕ). field_text u ++ 32 ∷ s) 
 pub fits_append : (row more : List Sort) (vs us : List Value) → FitsSort row vs → FitsSort more us → FitsSort (row ++ more) (vs ++ us)
 fits_append [] more [] us fits also = also
 fits_append (s ∷ row) more (v ∷ vs) us fits also = (fits.0, fits_append row more vs us fits.1 also)
-fits_append [] more (v ∷ vs) us fits also = absurd fits
-fits_append (s ∷ row) more [] us fits also = absurd fits
+fits_append _ more _ us fits also = absurd fits
 
 -- The walk.
 
@@ -138,3 +213,89 @@ first_stays row bytes left q r tail is first = record {
 pub none_in_row : (row : List Sort) (bytes left : List ℕ) (us : List Value) → IsFirstWrong row bytes left → FitsSort row us → bytes ≡ fields_text us → ⊥
 none_in_row row bytes left us first fits is =
     no_values first.before first.sort first.others us first.values left (subst (λ (r : List Sort). FitsSort r us) first.row_is fits) first.right first.wrong (sym is ∙ first.parts)
+
+-- Kinds by their names.
+
+-- the value beside a text in a table, or a default
+abbrev pub value_in_table : {V : Type 0} → List (List ℕ × V) → V → List ℕ → V
+value_in_table [] other xs = other
+value_in_table (row ∷ rows) other xs = cond (bytes_eq row.0 xs) row.1 (value_in_table rows other xs)
+
+abbrev rows : List (List ℕ × Kind)
+rows =
+    (codes "POINT", Kind.Point) ∷ (codes "LINE", Kind.Line)
+    ∷ (codes "ARC-OUTLINED", Kind.ArcOutlined) ∷ (codes "ARC-FILLED", Kind.ArcFilled)
+    ∷ (codes "RECT-OUTLINED", Kind.RectOutlined) ∷ (codes "RECT-FILLED", Kind.RectFilled)
+    ∷ (codes "POLY-OUTLINED", Kind.PolyOutlined) ∷ (codes "POLY-FILLED", Kind.PolyFilled)
+    ∷ (codes "CHAR", Kind.Char) ∷ (codes "MOVE", Kind.Move) ∷ (codes "TO-EOL", Kind.ToEol)
+    ∷ (codes "MAP", Kind.Map) ∷ (codes "BLINK", Kind.Blink) ∷ (codes "BLINK-END", Kind.BlinkEnd)
+    ∷ (codes "BLINK-START", Kind.BlinkStart) ∷ (codes "BLINK-STOP", Kind.BlinkStop)
+    ∷ (codes "WAIT", Kind.Wait) ∷ (codes "CURSOR", Kind.Cursor)
+    ∷ (codes "FIELD", Kind.Field) ∷ (codes "RESET", Kind.Reset) ∷ (codes "CLEAR", Kind.Clear)
+    ∷ (codes "GLYPH", Kind.Glyph) ∷ []
+
+-- the kind with this name that no word tells apart
+abbrev pub kind_at : List ℕ → Kind
+kind_at = value_in_table rows Kind.Mask
+
+abbrev plain : Kind → Kind
+plain Kind.Position = Kind.Move
+plain Kind.Whole = Kind.Field
+plain k = k
+
+again : (k : Kind) → kind_at (line_name k) ≡ plain k
+again Kind.Point = refl
+again _ = refl
+
+visible : (k : Kind) → EachAbove 32 (line_name k)
+visible Kind.Point = omega arith
+visible _ = omega arith
+
+pub name_visible : (k : Kind) → All (λ x. 32 < x) (line_name k)
+name_visible k = above 32 (line_name k) (visible k)
+
+-- no name has a space
+pub name_apart : (k : Kind) → All (λ x. x ≢ 32) (line_name k)
+name_apart k = apart_below 32 32 (line_name k) (omega arith) (name_visible k)
+
+-- kinds with one name, of which no word tells another, are equal
+kinds_tell : (j k : Kind) (q r : List ℕ) → plain j ≡ plain k → IsChosen j q → IsChosen k r → with_word j q ≡ with_word k r → j ≡ k
+kinds_tell Kind.Position Kind.Position q r same one two words = refl
+kinds_tell Kind.Whole Kind.Whole q r same one two words = refl
+kinds_tell Kind.Position Kind.Move q r same one two words = absurd (two q (sym words))
+kinds_tell Kind.Move Kind.Position q r same one two words = absurd (one r words)
+kinds_tell Kind.Whole Kind.Field q r same one two words = absurd (two q (sym words))
+kinds_tell Kind.Field Kind.Whole q r same one two words = absurd (one r words)
+kinds_tell Kind.Position k q r same one two words = absurd (let no : ⊥ = cc in no)
+kinds_tell Kind.Whole k q r same one two words = absurd (let no : ⊥ = cc in no)
+kinds_tell j Kind.Position q r same one two words = absurd (let no : ⊥ = cc in no)
+kinds_tell j Kind.Whole q r same one two words = absurd (let no : ⊥ = cc in no)
+kinds_tell j k q r same one two words = same
+
+with_cancel : (k : Kind) (q r : List ℕ) → with_word k q ≡ with_word k r → q ≡ r
+with_cancel Kind.Position q r is = append_cancel_left (codes "APS ") q r is
+with_cancel Kind.Whole q r is = append_cancel_left (codes "whole ") q r is
+with_cancel k q r is = is
+
+-- a line is of one kind
+pub one_kind : (j k : Kind) (q r : List ℕ) → IsChosen j q → IsChosen k r → line_from j q ≡ line_from k r → (j ≡ k) × (q ≡ r)
+one_kind j k q r one two is =
+    let parts = one_cut 32 (line_name j) (with_word j q) (line_name k) (with_word k r) (name_apart j) (name_apart k) is in
+    let same = kinds_tell j k q r (sym (again j) ∙ ap kind_at parts.0 ∙ again k) one two parts.1 in
+    (same, with_cancel k q r (subst (λ (m : Kind). with_word m q ≡ with_word k r) same parts.1))
+
+-- what follows a space doesn't matter for the kind
+pub chosen_stays : (k : Kind) (q r tail : List ℕ) → IsChosen k (q ++ 32 ∷ r) → IsChosen k (q ++ 32 ∷ tail)
+chosen_stays Kind.Move q r tail chosen = λ more is. let found = stays (codes "APS") q tail r more (apart_below 32 32 (codes "APS") (omega arith) (above 32 (codes "APS") (omega arith))) is in chosen found.0 found.1
+chosen_stays Kind.Field q r tail chosen = λ more is. let found = stays (codes "whole") q tail r more (apart_below 32 32 (codes "whole") (omega arith) (above 32 (codes "whole") (omega arith))) is in chosen found.0 found.1
+chosen_stays k q r tail chosen = tt
+
+-- Lines of a kind, in two parts.
+
+pub word_append : (k : Kind) (a b : List ℕ) → with_word k (a ++ b) ≡ with_word k a ++ b
+word_append Kind.Position a b = sym (append_assoc (codes "APS ") a b)
+word_append Kind.Whole a b = sym (append_assoc (codes "whole ") a b)
+word_append k a b = refl
+
+pub line_append : (k : Kind) (a b : List ℕ) → line_from k (a ++ b) ≡ line_from k a ++ b
+line_append k a b = ap (λ (s : List ℕ). line_name k ++ 32 ∷ s) (word_append k a b) ∙ sym (append_assoc (line_name k) (32 ∷ with_word k a) b)

@@ -1,20 +1,8 @@
-use Rattle.nap_make.proofs.Common.{All, All-head, AnyValue, Bool, BothFit, CharSet, CharSize, Colour, ColourInRange, Coordinates, CursorKind, Displacement, HasSixteenBitParts, IsAddress, IsByte, IsInRange, IsInSquare, IsWord, List, Mask, MaskInRange, None, Option, PenInRange, Size, SizeInRange, Some, TextInRange, TextModes, TextureInRange, [], ap, append_assoc, append_cancel_left, arith, code_text, codes, colour_field, colour_text, cond, cursor_text, decimal, decimal_injective, false, get_or, grb_text, look_field, look_text, mask_size_text, mask_text, modes_text, move_text, pair_text, pel_field, pen_field, pen_text, point_text, refl, set_text, size_text, subst, sym, texture_field, texture_text, true, ℕ, ◌%◌, ◌++◌, ◌/◌, ◌<◌, ◌∙◌, ◌∷◌, ◌≡◌, ◌≢◌}
-use Rattle.nap_codes.specs.declared.code_set.CharSet.TheVariants as char_sets
-use Rattle.nap_codes.specs.declared.control.CursorKind.TheVariants as cursors
-use Rattle.nap_codes.specs.declared.control.Mask.TheVariants as masks
-use Rattle.nap_codes.specs.declared.control.Size.TheVariants as named_sizes
-use Rattle.nap_list.specs.declared.attribute.CharSize.TheVariants as sizes
-use Rattle.nap_list.specs.declared.attribute.Colour.TheVariants as colours
-use Rattle.nap_list.specs.declared.attribute.Origin.TheVariants as origins
-use Rattle.nap_list.specs.declared.attribute.Pen.TheVariants as pens
-use Rattle.nap_list.specs.declared.attribute.Preset.TheVariants as presets
-use Rattle.nap_make.proofs.AttributeLemmas.{texture_pair, texture_parts}
-use Rattle.nap_make.proofs.CodeLemmas.{digit_tells}
-use Rattle.nap_make.proofs.ColourLemmas.{grb_triple, part_pair, part_triple}
-use Rattle.nap_make.proofs.LayoutLemmas.{Tells, alike_tell, both_tell}
-use Rattle.nap_make.proofs.LookLemmas.{look_parts, look_triple, modes_bytes, size_modes}
-use Rattle.nap_make.proofs.KindLemmas.{value_in_table}
-use Rattle.nap_make.proofs.PlaceLemmas.{addr_pair, move_spells, move_tells, point_spells, point_tells, word_pair, word_triple}
+use Rattle.nap_make.proofs.Common.{All, All-head, AnyValue, Bool, BothFit, CharSet, CharSize, Colour, ColourInRange, Coordinates, CursorKind, Displacement, HasSixteenBitParts, IsAddress, IsByte, IsInRange, IsInSquare, IsWord, List, Mask, MaskInRange, None, Option, Origin, Pen, PenInRange, Preset, Size, SizeInRange, Some, TextInRange, TextModes, TextureInRange, [], ap, append_assoc, append_cancel_left, arith, code_text, codes, colour_text, cond, cursor_text, decimal, decimal_injective, false, get_or, grb_text, look_text, mask_size_text, mask_text, modes_text, move_text, pair_text, pen_text, point_text, refl, set_text, size_text, subst, sym, texture_text, true, ℕ, ◌%◌, ◌++◌, ◌/◌, ◌<◌, ◌∙◌, ◌∷◌, ◌≡◌, ◌≢◌}
+use Rattle.nap_make.proofs.AttributeLemmas.{texture_pair, texture_parts, grb_triple, part_pair, part_triple, look_parts, look_triple, modes_bytes, size_modes, addr_pair, move_spells, move_tells, point_spells, point_tells, word_pair, word_triple}
+use Rattle.nap_make.proofs.NumberLemmas.{digit_tells}
+use Rattle.nap_make.proofs.CutLemmas.{Tells, alike_tell, both_tell}
+use Rattle.nap_make.proofs.RowLemmas.{value_in_table}
 
 -- Values with equal texts are equal, field by field.
 
@@ -23,7 +11,7 @@ pub tells_if_read : {V : Type 0} (P : V → Type 0) (f : V → List ℕ) (read :
 tells_if_read P f read again v w v_fits w_fits is = sym (again v v_fits) ∙ ap read is ∙ again w w_fits
 
 -- texts after a key
-key_tells : {V : Type 0} (P : V → Type 0) (f : V → List ℕ) (key : List ℕ) → Tells P f → Tells P (λ v. key ++ f v)
+pub key_tells : {V : Type 0} (P : V → Type 0) (f : V → List ℕ) (key : List ℕ) → Tells P f → Tells P (λ v. key ++ f v)
 key_tells P f key tells v w v_fits w_fits is = tells v w v_fits w_fits (append_cancel_left key (f v) (f w) is)
 
 -- a text of digits and signs begins with no letter
@@ -63,56 +51,48 @@ code_tells m n m_fits n_fits is =
 -- Values with names.
 
 pub set_tells : Tells AnyValue set_text
-set_tells = tells_if_read AnyValue set_text (value_in_table ((codes "primary", char_sets.Primary) ∷ (codes "supplementary", char_sets.Supplementary) ∷ (codes "mosaic", char_sets.Mosaic) ∷ []) char_sets.Drcs) again
+set_tells = tells_if_read AnyValue set_text (value_in_table ((codes "primary", CharSet.Primary) ∷ (codes "supplementary", CharSet.Supplementary) ∷ (codes "mosaic", CharSet.Mosaic) ∷ []) CharSet.Drcs) again
   where
-    again : (set : CharSet) → AnyValue set → value_in_table ((codes "primary", char_sets.Primary) ∷ (codes "supplementary", char_sets.Supplementary) ∷ (codes "mosaic", char_sets.Mosaic) ∷ []) char_sets.Drcs (set_text set) ≡ set
-    again char_sets.Primary any = refl
-    again char_sets.Supplementary any = refl
-    again char_sets.Mosaic any = refl
-    again char_sets.Drcs any = refl
+    again : (set : CharSet) → AnyValue set → value_in_table ((codes "primary", CharSet.Primary) ∷ (codes "supplementary", CharSet.Supplementary) ∷ (codes "mosaic", CharSet.Mosaic) ∷ []) CharSet.Drcs (set_text set) ≡ set
+    again CharSet.Primary any = refl
+    again _ any = refl
 
 pub cursor_tells : Tells AnyValue cursor_text
-cursor_tells = tells_if_read AnyValue cursor_text (value_in_table ((codes "flash", cursors.Flash) ∷ (codes "steady", cursors.Steady) ∷ []) cursors.Off) again
+cursor_tells = tells_if_read AnyValue cursor_text (value_in_table ((codes "flash", CursorKind.Flash) ∷ (codes "steady", CursorKind.Steady) ∷ []) CursorKind.Off) again
   where
-    again : (kind : CursorKind) → AnyValue kind → value_in_table ((codes "flash", cursors.Flash) ∷ (codes "steady", cursors.Steady) ∷ []) cursors.Off (cursor_text kind) ≡ kind
-    again cursors.Flash any = refl
-    again cursors.Steady any = refl
-    again cursors.Off any = refl
+    again : (kind : CursorKind) → AnyValue kind → value_in_table ((codes "flash", CursorKind.Flash) ∷ (codes "steady", CursorKind.Steady) ∷ []) CursorKind.Off (cursor_text kind) ≡ kind
+    again CursorKind.Flash any = refl
+    again _ any = refl
 
 pub mask_tells : Tells AnyValue mask_text
-mask_tells = tells_if_read AnyValue mask_text (value_in_table ((codes "A", masks.A) ∷ (codes "B", masks.B) ∷ (codes "C", masks.C) ∷ []) masks.D) again
+mask_tells = tells_if_read AnyValue mask_text (value_in_table ((codes "A", Mask.A) ∷ (codes "B", Mask.B) ∷ (codes "C", Mask.C) ∷ []) Mask.D) again
   where
-    again : (mask : Mask) → AnyValue mask → value_in_table ((codes "A", masks.A) ∷ (codes "B", masks.B) ∷ (codes "C", masks.C) ∷ []) masks.D (mask_text mask) ≡ mask
-    again masks.A any = refl
-    again masks.B any = refl
-    again masks.C any = refl
-    again masks.D any = refl
+    again : (mask : Mask) → AnyValue mask → value_in_table ((codes "A", Mask.A) ∷ (codes "B", Mask.B) ∷ (codes "C", Mask.C) ∷ []) Mask.D (mask_text mask) ≡ mask
+    again Mask.A any = refl
+    again _ any = refl
 
-named_tells : Tells AnyValue (λ (n : Size). size_text (sizes.Named n))
-named_tells = tells_if_read AnyValue (λ (n : Size). size_text (sizes.Named n)) (value_in_table ((codes "small", named_sizes.Small) ∷ (codes "medium", named_sizes.Medium) ∷ (codes "normal", named_sizes.Normal) ∷ (codes "tall", named_sizes.Tall) ∷ []) named_sizes.Double) again
+named_tells : Tells AnyValue (λ (n : Size). size_text (CharSize.Named n))
+named_tells = tells_if_read AnyValue (λ (n : Size). size_text (CharSize.Named n)) (value_in_table ((codes "small", Size.Small) ∷ (codes "medium", Size.Medium) ∷ (codes "normal", Size.Normal) ∷ (codes "tall", Size.Tall) ∷ []) Size.Double) again
   where
-    again : (n : Size) → AnyValue n → value_in_table ((codes "small", named_sizes.Small) ∷ (codes "medium", named_sizes.Medium) ∷ (codes "normal", named_sizes.Normal) ∷ (codes "tall", named_sizes.Tall) ∷ []) named_sizes.Double (size_text (sizes.Named n)) ≡ n
-    again named_sizes.Small any = refl
-    again named_sizes.Medium any = refl
-    again named_sizes.Normal any = refl
-    again named_sizes.Tall any = refl
-    again named_sizes.Double any = refl
+    again : (n : Size) → AnyValue n → value_in_table ((codes "small", Size.Small) ∷ (codes "medium", Size.Medium) ∷ (codes "normal", Size.Normal) ∷ (codes "tall", Size.Tall) ∷ []) Size.Double (size_text (CharSize.Named n)) ≡ n
+    again Size.Small any = refl
+    again _ any = refl
 
 -- Values of several forms.
 
 -- no displacement has the text of a named size
-no_name : (n : Size) (m : Displacement) → IsInRange m → move_text m ≡ size_text (sizes.Named n) → ⊥
-no_name named_sizes.Small m fits is = low_start 115 (move_text m) (codes "mall") (omega arith) (low_move m fits) is
-no_name named_sizes.Medium m fits is = low_start 109 (move_text m) (codes "edium") (omega arith) (low_move m fits) is
-no_name named_sizes.Normal m fits is = low_start 110 (move_text m) (codes "ormal") (omega arith) (low_move m fits) is
-no_name named_sizes.Tall m fits is = low_start 116 (move_text m) (codes "all") (omega arith) (low_move m fits) is
-no_name named_sizes.Double m fits is = low_start 100 (move_text m) (codes "ouble") (omega arith) (low_move m fits) is
+no_name : (n : Size) (m : Displacement) → IsInRange m → move_text m ≡ size_text (CharSize.Named n) → ⊥
+no_name Size.Small m fits is = low_start 115 (move_text m) (codes "mall") (omega arith) (low_move m fits) is
+no_name Size.Medium m fits is = low_start 109 (move_text m) (codes "edium") (omega arith) (low_move m fits) is
+no_name Size.Normal m fits is = low_start 110 (move_text m) (codes "ormal") (omega arith) (low_move m fits) is
+no_name Size.Tall m fits is = low_start 116 (move_text m) (codes "all") (omega arith) (low_move m fits) is
+no_name Size.Double m fits is = low_start 100 (move_text m) (codes "ouble") (omega arith) (low_move m fits) is
 
 size_tells : Tells SizeInRange size_text
-size_tells (sizes.Named m) (sizes.Named n) m_fits n_fits is = ap sizes.Named (named_tells m n tt tt is)
-size_tells (sizes.Named m) (sizes.Given n) m_fits n_fits is = absurd (no_name m n n_fits (sym is))
-size_tells (sizes.Given m) (sizes.Named n) m_fits n_fits is = absurd (no_name n m m_fits is)
-size_tells (sizes.Given m) (sizes.Given n) m_fits n_fits is = ap sizes.Given (move_tells m n m_fits n_fits is)
+size_tells (CharSize.Named m) (CharSize.Named n) m_fits n_fits is = ap CharSize.Named (named_tells m n tt tt is)
+size_tells (CharSize.Named m) (CharSize.Given n) m_fits n_fits is = absurd (no_name m n n_fits (sym is))
+size_tells (CharSize.Given m) (CharSize.Named n) m_fits n_fits is = absurd (no_name n m m_fits is)
+size_tells (CharSize.Given m) (CharSize.Given n) m_fits n_fits is = ap CharSize.Given (move_tells m n m_fits n_fits is)
 
 mask_size_tells : Tells MaskInRange mask_size_text
 mask_size_tells None None m_fits n_fits is = refl
@@ -120,67 +100,62 @@ mask_size_tells None (Some n) m_fits n_fits is = absurd (low_start 110 (move_tex
 mask_size_tells (Some m) None m_fits n_fits is = absurd (low_start 110 (move_text m) (codes "one") (omega arith) (low_move m m_fits) is)
 mask_size_tells (Some m) (Some n) m_fits n_fits is = ap (λ (d : Displacement). Some d) (move_tells m n m_fits n_fits is)
 
-pen_tells : Tells PenInRange pen_text
-pen_tells pens.Start pens.Start m_fits n_fits is = refl
-pen_tells pens.Start (pens.At q) m_fits n_fits is = absurd (low_start 115 (point_text q) (codes "tart") (omega arith) (low_point q n_fits) (sym is))
-pen_tells pens.Start pens.After m_fits n_fits is = let first : 115 ≡ 97 = ap (λ (s : List ℕ). get_or s 0 0) is in absurd (omega (arith, first))
-pen_tells (pens.At p) pens.Start m_fits n_fits is = absurd (low_start 115 (point_text p) (codes "tart") (omega arith) (low_point p m_fits) is)
-pen_tells (pens.At p) (pens.At q) m_fits n_fits is = ap pens.At (point_tells p q m_fits n_fits is)
-pen_tells (pens.At p) pens.After m_fits n_fits is = absurd (low_start 97 (point_text p) (codes "fter") (omega arith) (low_point p m_fits) is)
-pen_tells pens.After pens.Start m_fits n_fits is = let first : 97 ≡ 115 = ap (λ (s : List ℕ). get_or s 0 0) is in absurd (omega (arith, first))
-pen_tells pens.After (pens.At q) m_fits n_fits is = absurd (low_start 97 (point_text q) (codes "fter") (omega arith) (low_point q n_fits) (sym is))
-pen_tells pens.After pens.After m_fits n_fits is = refl
+pub pen_tells : Tells PenInRange pen_text
+pen_tells Pen.Start Pen.Start m_fits n_fits is = refl
+pen_tells Pen.Start (Pen.At q) m_fits n_fits is = absurd (low_start 115 (point_text q) (codes "tart") (omega arith) (low_point q n_fits) (sym is))
+pen_tells Pen.Start Pen.After m_fits n_fits is = let first : 115 ≡ 97 = ap (λ (s : List ℕ). get_or s 0 0) is in absurd (omega (arith, first))
+pen_tells (Pen.At p) Pen.Start m_fits n_fits is = absurd (low_start 115 (point_text p) (codes "tart") (omega arith) (low_point p m_fits) is)
+pen_tells (Pen.At p) (Pen.At q) m_fits n_fits is = ap Pen.At (point_tells p q m_fits n_fits is)
+pen_tells (Pen.At p) Pen.After m_fits n_fits is = absurd (low_start 97 (point_text p) (codes "fter") (omega arith) (low_point p m_fits) is)
+pen_tells Pen.After Pen.Start m_fits n_fits is = let first : 97 ≡ 115 = ap (λ (s : List ℕ). get_or s 0 0) is in absurd (omega (arith, first))
+pen_tells Pen.After (Pen.At q) m_fits n_fits is = absurd (low_start 97 (point_text q) (codes "fter") (omega arith) (low_point q n_fits) (sym is))
+pen_tells Pen.After Pen.After m_fits n_fits is = refl
 
 -- the first letter of a colour
 abbrev letter_of : Colour → ℕ
-letter_of (colours.Own origin) = 111
-letter_of (colours.Direct grb) = 100
-letter_of (colours.Front addr) = 102
-letter_of (colours.Pair prefix back) = 112
-letter_of (colours.ByReset preset) = 114
+letter_of (Colour.Own origin) = 111
+letter_of (Colour.Direct grb) = 100
+letter_of (Colour.Front addr) = 102
+letter_of (Colour.Pair prefix back) = 112
+letter_of (Colour.ByReset preset) = 114
 
 first_letter : (c : Colour) → get_or (colour_text c) 0 0 ≡ letter_of c
-first_letter (colours.Own origins.AtStart) = refl
-first_letter (colours.Own origins.AfterReset) = refl
-first_letter (colours.Direct grb) = refl
-first_letter (colours.Front addr) = refl
-first_letter (colours.Pair prefix back) = refl
-first_letter (colours.ByReset presets.Two) = refl
-first_letter (colours.ByReset presets.Three) = refl
+first_letter (Colour.Own Origin.AtStart) = refl
+first_letter (Colour.ByReset Preset.Two) = refl
+first_letter _ = refl
 
-pair_tells : (a b c d : ℕ) → IsAddress a × IsAddress b → IsAddress c × IsAddress d → colour_text (colours.Pair a b) ≡ colour_text (colours.Pair c d) → colours.Pair a b ≡ colours.Pair c d
+pair_tells : (a b c d : ℕ) → IsAddress a × IsAddress b → IsAddress c × IsAddress d → colour_text (Colour.Pair a b) ≡ colour_text (Colour.Pair c d) → Colour.Pair a b ≡ Colour.Pair c d
 pair_tells a b c d one two is =
     let numbers = append_cancel_left (codes "pair:") (decimal a ++ codes "," ++ decimal b) (decimal c ++ codes "," ++ decimal d) is in
     let same = both_tell addr_pair addr_tells addr_tells (a, b) (c, d) one two (sym (append_assoc (decimal a) (codes ",") (decimal b)) ∙ numbers ∙ append_assoc (decimal c) (codes ",") (decimal d)) in
-    ap (λ (p : ℕ × ℕ). colours.Pair p.0 p.1) same
+    ap (λ (p : ℕ × ℕ). Colour.Pair p.0 p.1) same
 
-colour_tells : Tells ColourInRange colour_text
+pub colour_tells : Tells ColourInRange colour_text
 colour_tells c d c_fits d_fits is = by c d c_fits d_fits is (sym (first_letter c) ∙ ap (λ (s : List ℕ). get_or s 0 0) is ∙ first_letter d)
   where
     by : (c d : Colour) → ColourInRange c → ColourInRange d → colour_text c ≡ colour_text d → letter_of c ≡ letter_of d → c ≡ d
-    by (colours.Own origins.AtStart) (colours.Own origins.AtStart) c_fits d_fits is same = refl
-    by (colours.Own origins.AtStart) (colours.Own origins.AfterReset) c_fits d_fits is same = let fifth : 115 ≡ 114 = ap (λ (s : List ℕ). get_or s 4 0) is in absurd (omega (arith, fifth))
-    by (colours.Own origins.AfterReset) (colours.Own origins.AtStart) c_fits d_fits is same = let fifth : 114 ≡ 115 = ap (λ (s : List ℕ). get_or s 4 0) is in absurd (omega (arith, fifth))
-    by (colours.Own origins.AfterReset) (colours.Own origins.AfterReset) c_fits d_fits is same = refl
-    by (colours.Direct a) (colours.Direct b) c_fits d_fits is same = ap colours.Direct (grb_tells a b c_fits d_fits (append_cancel_left (codes "direct:") (grb_text a) (grb_text b) is))
-    by (colours.Front a) (colours.Front b) c_fits d_fits is same = ap colours.Front (addr_tells a b c_fits d_fits (append_cancel_left (codes "front:") (decimal a) (decimal b) is))
-    by (colours.Pair a b) (colours.Pair c d) c_fits d_fits is same = pair_tells a b c d c_fits d_fits is
-    by (colours.ByReset presets.Two) (colours.ByReset presets.Two) c_fits d_fits is same = refl
-    by (colours.ByReset presets.Two) (colours.ByReset presets.Three) c_fits d_fits is same = let last : 50 ≡ 51 = ap (λ (s : List ℕ). get_or s 6 0) is in absurd (omega (arith, last))
-    by (colours.ByReset presets.Three) (colours.ByReset presets.Two) c_fits d_fits is same = let last : 51 ≡ 50 = ap (λ (s : List ℕ). get_or s 6 0) is in absurd (omega (arith, last))
-    by (colours.ByReset presets.Three) (colours.ByReset presets.Three) c_fits d_fits is same = refl
+    by (Colour.Own Origin.AtStart) (Colour.Own Origin.AtStart) c_fits d_fits is same = refl
+    by (Colour.Own Origin.AtStart) (Colour.Own Origin.AfterReset) c_fits d_fits is same = let fifth : 115 ≡ 114 = ap (λ (s : List ℕ). get_or s 4 0) is in absurd (omega (arith, fifth))
+    by (Colour.Own Origin.AfterReset) (Colour.Own Origin.AtStart) c_fits d_fits is same = let fifth : 114 ≡ 115 = ap (λ (s : List ℕ). get_or s 4 0) is in absurd (omega (arith, fifth))
+    by (Colour.Own Origin.AfterReset) (Colour.Own Origin.AfterReset) c_fits d_fits is same = refl
+    by (Colour.Direct a) (Colour.Direct b) c_fits d_fits is same = ap Colour.Direct (grb_tells a b c_fits d_fits (append_cancel_left (codes "direct:") (grb_text a) (grb_text b) is))
+    by (Colour.Front a) (Colour.Front b) c_fits d_fits is same = ap Colour.Front (addr_tells a b c_fits d_fits (append_cancel_left (codes "front:") (decimal a) (decimal b) is))
+    by (Colour.Pair a b) (Colour.Pair c d) c_fits d_fits is same = pair_tells a b c d c_fits d_fits is
+    by (Colour.ByReset Preset.Two) (Colour.ByReset Preset.Two) c_fits d_fits is same = refl
+    by (Colour.ByReset Preset.Two) (Colour.ByReset Preset.Three) c_fits d_fits is same = let last : 50 ≡ 51 = ap (λ (s : List ℕ). get_or s 6 0) is in absurd (omega (arith, last))
+    by (Colour.ByReset Preset.Three) (Colour.ByReset Preset.Two) c_fits d_fits is same = let last : 51 ≡ 50 = ap (λ (s : List ℕ). get_or s 6 0) is in absurd (omega (arith, last))
+    by (Colour.ByReset Preset.Three) (Colour.ByReset Preset.Three) c_fits d_fits is same = refl
     by c d c_fits d_fits is same = absurd (omega (arith, same))
 
 -- Textures, INK and HAND.
 
-texture_tells : Tells TextureInRange texture_text
+pub texture_tells : Tells TextureInRange texture_text
 texture_tells = alike_tell texture_pair (λ (t : ℕ × Option Displacement). record { word = t.0; mask = t.1 }) (λ t. refl) (both_tell texture_parts word_tells mask_size_tells)
 
 flag_tells : (a b : Bool) (letter : ℕ) → letter ≢ 45 → cond a letter 45 ≡ cond b letter 45 → a ≡ b
-flag_tells true true letter other is = refl
 flag_tells true false letter other is = absurd (other is)
 flag_tells false true letter other is = absurd (other (sym is))
-flag_tells false false letter other is = refl
+flag_tells _ _ letter other is = refl
 
 modes_tell : Tells AnyValue modes_text
 modes_tell m n any also is =
@@ -191,22 +166,7 @@ modes_tell m n any also is =
     let scroll = flag_tells m.scroll n.scroll 115 (λ e. omega (arith, e)) (ap (λ (s : List ℕ). get_or s 3 0) bytes) in
     rw (reverse, underline, wrap, scroll) refl
 
-look_tells : Tells TextInRange look_text
+pub look_tells : Tells TextInRange look_text
 look_tells =
     alike_tell look_triple (λ (t : (ℕ × ℕ) × (CharSize × TextModes)). record { first = t.0.0; second = t.0.1; size = t.1.0; reverse = t.1.1.reverse; underline = t.1.1.underline; wrap = t.1.1.wrap; scroll = t.1.1.scroll }) (λ t. refl)
     (both_tell look_parts (both_tell word_pair word_tells word_tells) (both_tell size_modes size_tells modes_tell))
-
-pub pel_field_tells : Tells IsInRange pel_field
-pel_field_tells = key_tells IsInRange move_text (codes "pel=") move_tells
-
-pub colour_field_tells : Tells ColourInRange colour_field
-colour_field_tells = key_tells ColourInRange colour_text (codes "colour=") colour_tells
-
-pub texture_field_tells : Tells TextureInRange texture_field
-texture_field_tells = key_tells TextureInRange texture_text (codes "texture=") texture_tells
-
-pub pen_field_tells : Tells PenInRange pen_field
-pen_field_tells = key_tells PenInRange pen_text (codes "pen=") pen_tells
-
-pub look_field_tells : Tells TextInRange look_field
-look_field_tells = key_tells TextInRange look_text (codes "text=") look_tells

@@ -1,11 +1,6 @@
-use Rattle.std.specs.Prelude.{ℕ, ◌≡◌, ◌⊎◌, ◌+◌, List, [], ◌∷◌, ◌++◌, Result, Ok, Err, codes, length}
-use Rattle.nap_list.specs.declared.entry.Entry.{Entry}
-use Rattle.nap_list.specs.Entry.{WellMade}
-use Rattle.nap_list.specs.Range.{InRange}
-use Rattle.nap_lines.specs.Lines.{line}
+use Rattle.std.specs.Prelude.{Err, List, Ok, Result, [], codes, length, ℕ, ◌++◌, ◌+◌, ◌∷◌, ◌≡◌, ◌⊎◌}
+use Rattle.nap_make.specs.Types.{Entry, InRange, Kind, WellMade, line}
 use Rattle.nap_make.specs.declared.fault.LineFault.{LineFault}
-use Rattle.nap_make.specs.declared.fault.LineFault.TheVariants as faults
-use Rattle.nap_make.specs.declared.kind.Kind.{Kind}
 use Rattle.nap_make.specs.Kinds.{HasPoints, line_from}
 use Rattle.nap_make.specs.Reading.{WritesNone, IsWritten}
 
@@ -73,5 +68,5 @@ pub record TellsColumn (bytes : List ℕ) (column : ℕ) : Type 0 where
 -- take.
 abbrev pub TellsLine : List ℕ → Result Entry LineFault → Type 0
 TellsLine bytes (Ok e) = IsWritten IsProper line bytes e
-TellsLine bytes (Err (faults.Line column)) = WritesNone IsProper line bytes × TellsColumn bytes column
-TellsLine bytes (Err faults.Memory) = BeginsShape bytes
+TellsLine bytes (Err (LineFault.Line column)) = WritesNone IsProper line bytes × TellsColumn bytes column
+TellsLine bytes (Err LineFault.Memory) = BeginsShape bytes

@@ -1,19 +1,13 @@
-use Rattle.std.specs.Prelude.{ℕ, List, ◌++◌, Option, IfSome, ⊤, codes}
-use Rattle.nap_values.specs.Coordinates.{Displacement, IsInRange}
+use Rattle.std.specs.Prelude.{IfSome, List, Option, codes, ℕ, ⊤, ◌++◌}
+use Rattle.nap_make.specs.Types.{ColourInRange, Displacement, IsInRange, TextStep, colour_text, flag_text, look_text, move_text, pen_text, size_text, texture_text}
 use Rattle.nap_codes.specs.declared.control.Size.{Size}
-use Rattle.nap_codes.specs.declared.control.TextStep.{TextStep}
-use Rattle.nap_codes.specs.declared.control.TextStep.TheVariants as steps
-use Rattle.nap_list.specs.declared.attribute.CharSize.TheVariants as sizes
+use Rattle.nap_list.specs.declared.attribute.CharSize.{CharSize}
 use Rattle.nap_list.specs.declared.attribute.Colour.{Colour}
-use Rattle.nap_list.specs.declared.attribute.Colour.TheVariants as colours
 use Rattle.nap_list.specs.declared.attribute.Pen.{Pen}
 use Rattle.nap_list.specs.declared.attribute.TextLook.{TextLook}
 use Rattle.nap_list.specs.declared.attribute.Texture.{Texture}
-use Rattle.nap_list.specs.Range.{ColourInRange}
-use Rattle.nap_lines.specs.Lines.{move_text, colour_text, pen_text, texture_text, look_text, flag_text, size_text}
-use Rattle.nap_make.specs.declared.colour.ColourKind.{ColourKind}
-use Rattle.nap_make.specs.declared.colour.ColourKind.TheVariants as kinds
-use Rattle.nap_make.specs.declared.look.TextModes.{TextModes}
+use Rattle.nap_make.specs.declared.attribute.ColourKind.{ColourKind}
+use Rattle.nap_make.specs.declared.attribute.TextModes.{TextModes}
 
 -- The fields with their keys.
 
@@ -40,24 +34,24 @@ MaskInRange mask = IfSome mask IsInRange
 
 -- the name of a colour that is written with numbers
 abbrev pub kind_name : ColourKind → List ℕ
-kind_name kinds.Direct = codes "direct"
-kind_name kinds.Front = codes "front"
-kind_name kinds.Pair = codes "pair"
+kind_name ColourKind.Direct = codes "direct"
+kind_name ColourKind.Front = codes "front"
+kind_name ColourKind.Pair = codes "pair"
 
 -- a colour that is written with numbers, in range
 abbrev pub IsNumbered : Colour → Type 0
-IsNumbered (colours.Own origin) = ⊥
-IsNumbered (colours.ByReset preset) = ⊥
+IsNumbered (Colour.Own origin) = ⊥
+IsNumbered (Colour.ByReset preset) = ⊥
 IsNumbered c = ColourInRange c
 
 -- a format effector of one byte
 abbrev pub IsPlainStep : TextStep → Type 0
-IsPlainStep (steps.Aps row column) = ⊥
+IsPlainStep (TextStep.Aps row column) = ⊥
 IsPlainStep _ = ⊤
 
 -- the name of a size
 abbrev pub size_name : Size → List ℕ
-size_name size = size_text (sizes.Named size)
+size_name size = size_text (CharSize.Named size)
 
 -- the four flags: the letter of each that is on, else `-`
 abbrev pub modes_text : TextModes → List ℕ

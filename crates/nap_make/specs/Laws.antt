@@ -1,8 +1,5 @@
-use Rattle.std.specs.Prelude.{ℕ, ◌≡◌, ◌≢◌, ◌≤◌, List, All, length}
-use Rattle.nap_list.specs.declared.entry.Entry.{Entry}
-use Rattle.nap_list.specs.Range.{InRange, AllInRange}
-use Rattle.nap_lines.specs.Lines.{line}
-use Rattle.nap_lines.specs.Listing.{lines}
+use Rattle.std.specs.Prelude.{All, List, length, ℕ, ◌≡◌, ◌≢◌, ◌≤◌}
+use Rattle.nap_make.specs.Types.{AllInRange, Entry, InRange, line, lines}
 use Rattle.nap_make.specs.Entries.{IsProper, TellsColumn}
 
 -- entries in range with equal lines are equal
@@ -21,9 +18,9 @@ longest_line = 32112
 abbrev pub LinesAreBounded : Type 0
 LinesAreBounded = (e : Entry) → IsProper e → length (line e) ≤ longest_line
 
--- No line of a well-made entry in range contains LF.
+-- No line of an entry in range contains LF.
 abbrev pub LinesHaveNoEnds : Type 0
-LinesHaveNoEnds = (e : Entry) → IsProper e → All (λ b. b ≢ 10) (line e)
+LinesHaveNoEnds = (e : Entry) → InRange e → All (λ b. b ≢ 10) (line e)
 
 -- The fault of a line has one column.
 abbrev pub ColumnsAreOne : Type 0

@@ -1,3 +1,4 @@
+pub mod Types
 -- An entry and its line.
 pub mod Cutting
 pub mod Entries

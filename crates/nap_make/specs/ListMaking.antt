@@ -1,17 +1,8 @@
-use Rattle.std.specs.Prelude.{ℕ, ◌≡◌, ◌≢◌, ◌⊎◌, ◌+◌, ◌<◌, ◌≤◌, true, false, List, [], ◌∷◌, ◌++◌, All, IsSome, Result, Ok, Err, length}
-use Rattle.nap_list.specs.declared.entry.Entry.{Entry}
-use Rattle.nap_list.specs.declared.sink.Sink.{Ghosts}
-use Rattle.nap_list.specs.Reading.{Reading, NoneFailed, IsCutOff, IsReadWhole}
-use Rattle.nap_list.specs.State.{start, walk, AllFit, Fits}
-use Rattle.nap_lines.specs.Listing.{lines}
+use Rattle.std.specs.Prelude.{All, Err, IsSome, List, Ok, Result, [], false, length, true, ℕ, ◌++◌, ◌+◌, ◌<◌, ◌∷◌, ◌≡◌, ◌≢◌, ◌≤◌, ◌⊎◌}
+use Rattle.nap_make.specs.Types.{AllFit, Entry, Fits, Ghosts, IsCutOff, IsReadWhole, LineMaker, ListFault, MakeFault, NoneFailed, Reading, lines, start, walk}
 use Rattle.nap_make.specs.Entries.{IsProper, TellsColumn}
 use Rattle.nap_make.specs.Laws.{longest_line}
-use Rattle.nap_make.specs.declared.lines.fault.MakeFault.{MakeFault}
-use Rattle.nap_make.specs.declared.lines.fault.MakeFault.TheVariants as faults
 use Rattle.nap_make.specs.declared.lines.reader.LineReader.{LineReader}
-use Rattle.nap_make.specs.declared.lines.maker.LineMaker.{LineMaker}
-use Rattle.nap_make.specs.declared.lines.fault.ListFault.{ListFault}
-use Rattle.nap_make.specs.declared.lines.fault.ListFault.TheVariants as list_faults
 use Rattle.nap_make.specs.Lists.{AreLines, BeginsNoLine, ComeFirst, LinesSoFar, MakesNone, OpenedAt, ShowsNone}
 
 -- What a sink has taken.
@@ -28,7 +19,7 @@ pub record SinkBroke {S : Type 0} (g : Ghosts S) (s : S) (es : List Entry) (e : 
 
 -- what a sink took, where the lines of these entries were read or its device failed during one more
 abbrev pub StopsLinesBy : {S : Type 0} → Ghosts S → S → List ℕ → List Entry → S → MakeFault → Type 0
-StopsLinesBy g s p es t faults.Write = (e : Entry) × ((more : List ℕ) → (rest : List ℕ) × LinesSoFar (p ++ more) (es ++ e ∷ []) rest) × SinkBroke g s es e t
+StopsLinesBy g s p es t MakeFault.Write = (e : Entry) × ((more : List ℕ) → (rest : List ℕ) × LinesSoFar (p ++ more) (es ++ e ∷ []) rest) × SinkBroke g s es e t
 StopsLinesBy g s p es t fault = ShowsNone p es fault × SinkTook g s es t
 
 -- The maker of a list.
@@ -45,15 +36,15 @@ pub record MakerHasPut {S : Type 0} (g : Ghosts S) (s : S) (es : List Entry) (m 
 -- the entry of one more line was put, or the fault says why not
 abbrev pub PutsEntry : {S : Type 0} → Ghosts S → S → List Entry → Entry → LineMaker S → Result (Unit {0}) MakeFault → Type 0
 PutsEntry g s es e m (Ok done) = MakerHasPut g s (es ++ e ∷ []) m
-PutsEntry g s es e m (Err (faults.Misfit number)) = (number ≡ length es + 1) × (Fits (walk start es) e → ⊥) × SinkTook g s es m.sink
-PutsEntry g s es e m (Err faults.Memory) = SinkTook g s es m.sink
-PutsEntry g s es e m (Err faults.Write) = Fits (walk start es) e × SinkBroke g s es e m.sink
+PutsEntry g s es e m (Err (MakeFault.Misfit number)) = (number ≡ length es + 1) × (Fits (walk start es) e → ⊥) × SinkTook g s es m.sink
+PutsEntry g s es e m (Err MakeFault.Memory) = SinkTook g s es m.sink
+PutsEntry g s es e m (Err MakeFault.Write) = Fits (walk start es) e × SinkBroke g s es e m.sink
 PutsEntry g s es e m (Err _) = ⊥
 
 -- the fault of a last line without LF, or of one that is too long
 abbrev pub IsUnendedLine : List Entry → List ℕ → MakeFault → Type 0
-IsUnendedLine es bytes (faults.Line number column) = (number ≡ length es + 1) × TellsColumn bytes column
-IsUnendedLine es bytes faults.Memory = Unit {0}
+IsUnendedLine es bytes (MakeFault.Line number column) = (number ≡ length es + 1) × TellsColumn bytes column
+IsUnendedLine es bytes MakeFault.Memory = Unit {0}
 IsUnendedLine es bytes _ = ⊥
 
 -- The reader of lines.
@@ -79,8 +70,8 @@ pub record StopsLines {S : Type 0} (g : Ghosts S) (s : S) (p : List ℕ) (t : S)
 
 -- bytes of a line were read, all of which are these, without LF
 abbrev pub KeepsPart : {S : Type 0} → Ghosts S → S → List Entry → List ℕ → LineMaker S → MakeFault → Type 0
-KeepsPart g s es bytes m (faults.Line number column) = (number ≡ length es + 1) × (0 < length bytes) × ((more : List ℕ) → BeginsNoLine (bytes ++ more) × TellsColumn (bytes ++ more) column) × SinkTook g s es m.sink
-KeepsPart g s es bytes m faults.Memory = SinkTook g s es m.sink
+KeepsPart g s es bytes m (MakeFault.Line number column) = (number ≡ length es + 1) × (0 < length bytes) × ((more : List ℕ) → BeginsNoLine (bytes ++ more) × TellsColumn (bytes ++ more) column) × SinkTook g s es m.sink
+KeepsPart g s es bytes m MakeFault.Memory = SinkTook g s es m.sink
 KeepsPart g s es bytes m _ = ⊥
 
 -- more bytes were read, or they aren't the lines of a list
@@ -92,8 +83,8 @@ FeedsLines g s p r (Err fault) = StopsLines g s p r.maker.sink fault
 -- read gave zero bytes before its end.
 abbrev pub FeedsFrom : {S : Type 0} → Ghosts S → S → List ℕ → Reading → LineReader S → Result (Unit {0}) ListFault → Type 0
 FeedsFrom g s p seen r (Ok done) = IsReadWhole seen p × HasReadLines g s p r
-FeedsFrom g s p seen r (Err (list_faults.Lines fault)) = NoneFailed seen × (seen.reads ≤ length p) × StopsLines g s p r.maker.sink fault
-FeedsFrom g s p seen r (Err list_faults.Read) = IsCutOff seen p × IsReady g r × HasReadLines g s p r
+FeedsFrom g s p seen r (Err (ListFault.Lines fault)) = NoneFailed seen × (seen.reads ≤ length p) × StopsLines g s p r.maker.sink fault
+FeedsFrom g s p seen r (Err ListFault.Read) = IsCutOff seen p × IsReady g r × HasReadLines g s p r
 
 -- A sink that was s took the list of the lines p.
 pub record MakesList {S : Type 0} (g : Ghosts S) (s : S) (p : List ℕ) (t : S) : Type 0 where
@@ -106,7 +97,7 @@ pub record MakesList {S : Type 0} (g : Ghosts S) (s : S) (p : List ℕ) (t : S) 
 pub record MakesNoList {S : Type 0} (g : Ghosts S) (s : S) (p : List ℕ) (t : S) (fault : MakeFault) : Type 0 where
   pub entries : List Entry
   pub first : ComeFirst p entries
-  pub own : fault ≢ faults.Write
+  pub own : fault ≢ MakeFault.Write
   pub why : MakesNone p entries fault
   pub kept : SinkTook g s entries t
 
@@ -118,7 +109,7 @@ Finishes g s p t (Err fault) = MakesNoList g s p t fault
 -- the entries of lines in memory were put into a sink that was s, with their number; or the lines aren't a list's, or
 -- the sink failed
 abbrev pub PutsLines : {S : Type 0} → Ghosts S → S → List ℕ → S → Result ℕ MakeFault → Type 0
-PutsLines g s p t (Err faults.Write) = StopsLines g s p t faults.Write
+PutsLines g s p t (Err MakeFault.Write) = StopsLines g s p t MakeFault.Write
 PutsLines g s p t result = Finishes g s p t result
 
 -- The input failed or was read too often. A sink that was s took the entries of the lines so far.
@@ -134,5 +125,5 @@ pub record CutsOffLines {S : Type 0} (g : Ghosts S) (s : S) (p : List ℕ) (seen
 -- were read; no read gave zero bytes then.
 abbrev pub Makes : {S : Type 0} → Ghosts S → S → List ℕ → Reading → S → Result (Unit {0}) ListFault → Type 0
 Makes g s p seen t (Ok done) = IsReadWhole seen p × MakesList g s p t
-Makes g s p seen t (Err (list_faults.Lines fault)) = (IsReadWhole seen p × MakesNoList g s p t fault) ⊎ (NoneFailed seen × (seen.reads ≤ length p) × StopsLines g s p t fault)
-Makes g s p seen t (Err list_faults.Read) = CutsOffLines g s p seen t
+Makes g s p seen t (Err (ListFault.Lines fault)) = (IsReadWhole seen p × MakesNoList g s p t fault) ⊎ (NoneFailed seen × (seen.reads ≤ length p) × StopsLines g s p t fault)
+Makes g s p seen t (Err ListFault.Read) = CutsOffLines g s p seen t

@@ -1,13 +1,6 @@
-use Rattle.std.specs.Prelude.{ℕ, ◌≡◌, ◌≢◌, ◌+◌, ◌<◌, List, [], ◌∷◌, ◌++◌, All, IsSome, None, length}
-use Rattle.nap_list.specs.declared.entry.Entry.{Entry}
-use Rattle.nap_list.specs.declared.entry.Entry.TheVariants as entries
-use Rattle.nap_list.specs.Range.{AllInRange}
-use Rattle.nap_list.specs.State.{start, walk, AllFit, Fits, Legal}
-use Rattle.nap_lines.specs.Lines.{line}
-use Rattle.nap_lines.specs.Listing.{lines}
+use Rattle.std.specs.Prelude.{All, IsSome, List, None, [], length, ℕ, ◌++◌, ◌+◌, ◌<◌, ◌∷◌, ◌≡◌, ◌≢◌}
+use Rattle.nap_make.specs.Types.{AllFit, AllInRange, Entry, Fits, Legal, MakeFault, line, lines, start, walk}
 use Rattle.nap_make.specs.Entries.{IsProper, TellsColumn}
-use Rattle.nap_make.specs.declared.lines.fault.MakeFault.{MakeFault}
-use Rattle.nap_make.specs.declared.lines.fault.MakeFault.TheVariants as faults
 
 -- The lines of a list.
 
@@ -56,7 +49,7 @@ pub record OpenedAt (es : List Entry) (number : ℕ) : Type 0 where
   pub place : number ≡ length before + 1
   pub closed : (walk start before).definition ≡ None
   pub opens : IsSome (walk start (before ++ opening ∷ [])).definition
-  pub unended : All (λ e. e ≢ entries.DefEnd) inside
+  pub unended : All (λ e. e ≢ Entry.DefEnd) inside
 
 -- The bytes are the lines of as many entries, and the definition opened by one of them isn't ended.
 pub record OpenAt (p : List ℕ) (es : List Entry) (number opening : ℕ) : Type 0 where
@@ -71,11 +64,11 @@ ComeFirst p es = (rest : List ℕ) × LinesSoFar p es rest
 -- Why lines, after those of these entries, aren't a list's. Memory may run out anywhere, and a device fails at the
 -- entry of one more line.
 abbrev pub MakesNone : List ℕ → List Entry → MakeFault → Type 0
-MakesNone p es (faults.Line number column) = NoLineAt p es number column
-MakesNone p es (faults.Misfit number) = MisfitAt p es number
-MakesNone p es (faults.Open number opening) = OpenAt p es number opening
-MakesNone p es faults.Memory = ComeFirst p es
-MakesNone p es faults.Write = (e : Entry) × ComeFirst p (es ++ e ∷ [])
+MakesNone p es (MakeFault.Line number column) = NoLineAt p es number column
+MakesNone p es (MakeFault.Misfit number) = MisfitAt p es number
+MakesNone p es (MakeFault.Open number opening) = OpenAt p es number opening
+MakesNone p es MakeFault.Memory = ComeFirst p es
+MakesNone p es MakeFault.Write = (e : Entry) × ComeFirst p (es ++ e ∷ [])
 
 -- lines, and whatever follows them, aren't a list's
 abbrev pub ShowsNone : List ℕ → List Entry → MakeFault → Type 0

@@ -1,6 +1,5 @@
-use Rattle.std.specs.Prelude.{ℕ, ◌≡◌, List}
-use Rattle.nap_list.specs.declared.entry.Entry.{Entry}
-use Rattle.nap_canon.specs.Text.{text}
+use Rattle.std.specs.Prelude.{List, ℕ, ◌≡◌}
+use Rattle.nap_make.specs.Types.{Entry, text}
 use Rattle.nap_make.specs.Lists.{AreLines}
 
 -- The first bytes are the page that these lines make: the canonical text of the list with these lines.

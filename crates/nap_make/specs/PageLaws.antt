@@ -1,5 +1,5 @@
-use Rattle.std.specs.Prelude.{ℕ, ◌≡◌, ◌↔◌, List}
-use Rattle.nap_lines.specs.Listing.{lines}
+use Rattle.std.specs.Prelude.{List, ℕ, ◌↔◌, ◌≡◌}
+use Rattle.nap_make.specs.Types.{lines}
 use Rattle.nap_reader.specs.Stream.{means}
 use Rattle.nap_canon.specs.Streams.{IsAccepted, list_of, IsCanonicalOf}
 use Rattle.nap_make.specs.Making.{IsMadeOf}

@@ -1,15 +1,8 @@
-use Rattle.std.specs.Prelude.{ℕ, ◌≡◌, ◌≢◌, ◌⊎◌, ◌≤◌, Bool, true, false, List, Result, Ok, Err, All, length}
-use Rattle.nap_list.specs.declared.entry.Entry.{Entry}
-use Rattle.nap_list.specs.Reading.{Reading, NoneFailed, IsCutOff, IsReadWhole}
+use Rattle.std.specs.Prelude.{All, Bool, Err, List, Ok, Result, false, length, true, ℕ, ◌≡◌, ◌≢◌, ◌≤◌, ◌⊎◌}
+use Rattle.nap_make.specs.Types.{Entry, IsCutOff, IsReadWhole, ListFault, MakeFault, NoneFailed, Reading, text}
 use Rattle.nap_canon.specs.Converting.{IsPrefixOf, count_of}
-use Rattle.nap_canon.specs.Text.{text}
-use Rattle.nap_make.specs.declared.lines.fault.MakeFault.{MakeFault}
-use Rattle.nap_make.specs.declared.lines.fault.MakeFault.TheVariants as make_faults
-use Rattle.nap_make.specs.declared.lines.fault.ListFault.{ListFault}
-use Rattle.nap_make.specs.declared.lines.fault.ListFault.TheVariants as list_faults
 use Rattle.nap_make.specs.Lists.{LinesSoFar, MakesNone, ShowsNone}
 use Rattle.nap_make.specs.declared.page.PageFault.{PageFault}
-use Rattle.nap_make.specs.declared.page.PageFault.TheVariants as faults
 use Rattle.nap_make.specs.Making.{IsMadeOf}
 
 -- A page made of lines: the bytes p were read, and the output took q.
@@ -30,7 +23,7 @@ pub record RefusesLines (p : List ℕ) (seen : Reading) (q : List ℕ) (fault : 
 
 -- a failed write isn't a fault of the lines
 abbrev pub RefusesLinesBy : List ℕ → Reading → List ℕ → MakeFault → Type 0
-RefusesLinesBy p seen q make_faults.Write = ⊥
+RefusesLinesBy p seen q MakeFault.Write = ⊥
 RefusesLinesBy p seen q fault = RefusesLines p seen q fault
 
 -- The input failed or was read too often, and q is the text of the lines so far.
@@ -64,18 +57,18 @@ ReadsNoMore false p seen = Unit {0}
 -- what is answered, by whether the output has failed
 abbrev pub MakesPage : List ℕ → Reading → List ℕ → Bool → Result ℕ PageFault → Type 0
 MakesPage p seen q false (Ok n) = (n ≡ count_of q) × MakesWhole p seen q
-MakesPage p seen q false (Err (faults.Lines fault n)) = (n ≡ count_of q) × RefusesLinesBy p seen q fault
-MakesPage p seen q false (Err (faults.Read n)) = (n ≡ count_of q) × CutsOffPage p seen q
-MakesPage p seen q true (Err (faults.Write n)) = (n ≡ count_of q) × MakesPart p seen q
+MakesPage p seen q false (Err (PageFault.Lines fault n)) = (n ≡ count_of q) × RefusesLinesBy p seen q fault
+MakesPage p seen q false (Err (PageFault.Read n)) = (n ≡ count_of q) × CutsOffPage p seen q
+MakesPage p seen q true (Err (PageFault.Write n)) = (n ≡ count_of q) × MakesPart p seen q
 MakesPage p seen q failed answer = ⊥
 
 -- the answer for lines that were read with this result, where n bytes were written
 abbrev pub page_answer : ℕ → Result (Unit {0}) ListFault → Result ℕ PageFault
 page_answer n (Ok done) = Ok n
-page_answer n (Err (list_faults.Lines fault)) = Err (faults.Lines fault n)
-page_answer n (Err list_faults.Read) = Err (faults.Read n)
+page_answer n (Err (ListFault.Lines fault)) = Err (PageFault.Lines fault n)
+page_answer n (Err ListFault.Read) = Err (PageFault.Read n)
 
 -- a failed output replaces any other answer
 abbrev pub ConcludesPage : ℕ → Result (Unit {0}) ListFault → Bool → Result ℕ PageFault → Type 0
-ConcludesPage n made true answer = answer ≡ Err (faults.Write n)
+ConcludesPage n made true answer = answer ≡ Err (PageFault.Write n)
 ConcludesPage n made false answer = answer ≡ page_answer n made

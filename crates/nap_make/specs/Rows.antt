@@ -1,18 +1,8 @@
-use Rattle.std.specs.Prelude.{ℕ, ◌≡◌, ◌≢◌, ◌⊎◌, ◌≤◌, true, false, List, [], ◌∷◌, ◌++◌, All, Option, Some, None, Result, Ok, Err, length}
-use Rattle.nap_values.specs.Coordinates.{Coordinates, IsInSquare}
-use Rattle.nap_codes.specs.declared.control.TextStep.TheVariants as steps
-use Rattle.nap_list.specs.declared.attribute.Area.TheVariants as areas
-use Rattle.nap_list.specs.declared.attribute.Hand.{Hand}
+use Rattle.std.specs.Prelude.{All, Err, List, None, Ok, Option, Result, Some, [], false, length, true, ℕ, ◌++◌, ◌∷◌, ◌≡◌, ◌≢◌, ◌≤◌, ◌⊎◌}
+use Rattle.nap_make.specs.Types.{Coordinates, Entry, Hand, IsInSquare, Kind, Sort, TextStep, Value, point_text}
+use Rattle.nap_list.specs.declared.attribute.Area.{Area}
 use Rattle.nap_list.specs.declared.attribute.Ink.{Ink}
-use Rattle.nap_list.specs.declared.entry.Entry.{Entry}
-use Rattle.nap_list.specs.declared.entry.Entry.TheVariants as entry
 use Rattle.nap_list.specs.Limits.{points_limit}
-use Rattle.nap_lines.specs.Lines.{point_text}
-use Rattle.nap_make.specs.declared.field.Sort.{Sort}
-use Rattle.nap_make.specs.declared.field.Value.{Value}
-use Rattle.nap_make.specs.declared.field.Value.TheVariants as values
-use Rattle.nap_make.specs.declared.kind.Kind.{Kind}
-use Rattle.nap_make.specs.declared.kind.Kind.TheVariants as kinds
 use Rattle.nap_make.specs.Kinds.{line_from}
 use Rattle.nap_make.specs.Reading.{WritesNone}
 use Rattle.nap_make.specs.Sorts.{InSort, field_text}
@@ -81,43 +71,43 @@ pub record Fields : Type 0 where
   pub values : List Value
 
 abbrev ink_values : Ink → List Value
-ink_values ink = values.Pel ink.pel ∷ values.Colour ink.colour ∷ values.Texture ink.texture ∷ []
+ink_values ink = Value.Pel ink.pel ∷ Value.Colour ink.colour ∷ Value.Texture ink.texture ∷ []
 
 abbrev hand_values : Hand → List Value
-hand_values hand = values.Pen hand.pen ∷ values.Colour hand.colour ∷ values.Look hand.text ∷ []
+hand_values hand = Value.Pen hand.pen ∷ Value.Colour hand.colour ∷ Value.Look hand.text ∷ []
 
 abbrev plain : Kind → List Value → Option Fields
 plain kind vs = Some (record { kind = kind; points = []; values = vs })
 
 -- none where the line is a name alone
 abbrev pub fields_of : Entry → Option Fields
-fields_of (entry.Point at pel colour) = plain kinds.Point (values.Point at ∷ values.Pel pel ∷ values.Colour colour ∷ [])
-fields_of (entry.Line from to ink) = plain kinds.Line (values.Point from ∷ values.Point to ∷ ink_values ink)
-fields_of (entry.Arc true points ink) = Some (record { kind = kinds.ArcFilled; points = points; values = ink_values ink })
-fields_of (entry.Arc false points ink) = Some (record { kind = kinds.ArcOutlined; points = points; values = ink_values ink })
-fields_of (entry.Rect true from to ink) = plain kinds.RectFilled (values.Point from ∷ values.Point to ∷ ink_values ink)
-fields_of (entry.Rect false from to ink) = plain kinds.RectOutlined (values.Point from ∷ values.Point to ∷ ink_values ink)
-fields_of (entry.Poly true points ink) = Some (record { kind = kinds.PolyFilled; points = points; values = ink_values ink })
-fields_of (entry.Poly false points ink) = Some (record { kind = kinds.PolyOutlined; points = points; values = ink_values ink })
-fields_of (entry.Char set code hand) = plain kinds.Char (values.Set set ∷ values.Code code ∷ hand_values hand)
-fields_of (entry.TextMove (steps.Aps row column) hand) = plain kinds.Position (values.Code row ∷ values.Code column ∷ hand_values hand)
-fields_of (entry.TextMove step hand) = plain kinds.Move (values.Step step ∷ hand_values hand)
-fields_of (entry.ToEol hand) = plain kinds.ToEol (hand_values hand)
-fields_of (entry.Map addr grb) = plain kinds.Map (values.Addr addr ∷ values.Parts grb ∷ [])
-fields_of (entry.Blink addr on off delay colour) = plain kinds.Blink (values.Addr addr ∷ values.Times on off delay ∷ values.Colour colour ∷ [])
-fields_of (entry.BlinkEnd colour) = plain kinds.BlinkEnd (values.Colour colour ∷ [])
-fields_of (entry.BlinkMark true colour) = plain kinds.BlinkStart (values.Colour colour ∷ [])
-fields_of (entry.BlinkMark false colour) = plain kinds.BlinkStop (values.Colour colour ∷ [])
-fields_of (entry.Wait tenths) = plain kinds.Wait (values.Word tenths ∷ [])
-fields_of entry.Bell = None
-fields_of (entry.Cursor state) = plain kinds.Cursor (values.Cursor state ∷ [])
-fields_of (entry.Field (areas.Part from to) pen) = plain kinds.Field (values.Point from ∷ values.Point to ∷ values.Pen pen ∷ [])
-fields_of (entry.Field areas.Whole pen) = plain kinds.Whole (values.Pen pen ∷ [])
-fields_of (entry.Reset first second pen) = plain kinds.Reset (values.Word first ∷ values.Word second ∷ values.Pen pen ∷ [])
-fields_of (entry.Clear pen) = plain kinds.Clear (values.Pen pen ∷ [])
-fields_of (entry.GlyphStart code) = plain kinds.Glyph (values.Code code ∷ [])
-fields_of (entry.MaskStart mask) = plain kinds.Mask (values.Mask mask ∷ [])
-fields_of entry.DefEnd = None
+fields_of (Entry.Point at pel colour) = plain Kind.Point (Value.Point at ∷ Value.Pel pel ∷ Value.Colour colour ∷ [])
+fields_of (Entry.Line from to ink) = plain Kind.Line (Value.Point from ∷ Value.Point to ∷ ink_values ink)
+fields_of (Entry.Arc true points ink) = Some (record { kind = Kind.ArcFilled; points = points; values = ink_values ink })
+fields_of (Entry.Arc false points ink) = Some (record { kind = Kind.ArcOutlined; points = points; values = ink_values ink })
+fields_of (Entry.Rect true from to ink) = plain Kind.RectFilled (Value.Point from ∷ Value.Point to ∷ ink_values ink)
+fields_of (Entry.Rect false from to ink) = plain Kind.RectOutlined (Value.Point from ∷ Value.Point to ∷ ink_values ink)
+fields_of (Entry.Poly true points ink) = Some (record { kind = Kind.PolyFilled; points = points; values = ink_values ink })
+fields_of (Entry.Poly false points ink) = Some (record { kind = Kind.PolyOutlined; points = points; values = ink_values ink })
+fields_of (Entry.Char set code hand) = plain Kind.Char (Value.Set set ∷ Value.Code code ∷ hand_values hand)
+fields_of (Entry.TextMove (TextStep.Aps row column) hand) = plain Kind.Position (Value.Code row ∷ Value.Code column ∷ hand_values hand)
+fields_of (Entry.TextMove step hand) = plain Kind.Move (Value.Step step ∷ hand_values hand)
+fields_of (Entry.ToEol hand) = plain Kind.ToEol (hand_values hand)
+fields_of (Entry.Map addr grb) = plain Kind.Map (Value.Addr addr ∷ Value.Parts grb ∷ [])
+fields_of (Entry.Blink addr on off delay colour) = plain Kind.Blink (Value.Addr addr ∷ Value.Times on off delay ∷ Value.Colour colour ∷ [])
+fields_of (Entry.BlinkEnd colour) = plain Kind.BlinkEnd (Value.Colour colour ∷ [])
+fields_of (Entry.BlinkMark true colour) = plain Kind.BlinkStart (Value.Colour colour ∷ [])
+fields_of (Entry.BlinkMark false colour) = plain Kind.BlinkStop (Value.Colour colour ∷ [])
+fields_of (Entry.Wait tenths) = plain Kind.Wait (Value.Word tenths ∷ [])
+fields_of Entry.Bell = None
+fields_of (Entry.Cursor state) = plain Kind.Cursor (Value.Cursor state ∷ [])
+fields_of (Entry.Field (Area.Part from to) pen) = plain Kind.Field (Value.Point from ∷ Value.Point to ∷ Value.Pen pen ∷ [])
+fields_of (Entry.Field Area.Whole pen) = plain Kind.Whole (Value.Pen pen ∷ [])
+fields_of (Entry.Reset first second pen) = plain Kind.Reset (Value.Word first ∷ Value.Word second ∷ Value.Pen pen ∷ [])
+fields_of (Entry.Clear pen) = plain Kind.Clear (Value.Pen pen ∷ [])
+fields_of (Entry.GlyphStart code) = plain Kind.Glyph (Value.Code code ∷ [])
+fields_of (Entry.MaskStart mask) = plain Kind.Mask (Value.Mask mask ∷ [])
+fields_of Entry.DefEnd = None
 
 -- the entry has these fields
 abbrev pub HasFields : Kind → List Coordinates → List Value → Entry → Type 0

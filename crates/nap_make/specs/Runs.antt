@@ -1,22 +1,12 @@
-use Rattle.std.specs.Prelude.{ℕ, ◌≡◌, ◌≢◌, ◌≤◌, List, [], ◌∷◌, ◌++◌, flat_map, Result, Ok, Err, length}
+use Rattle.std.specs.Prelude.{Err, List, Ok, Result, [], flat_map, length, ℕ, ◌++◌, ◌∷◌, ◌≡◌, ◌≢◌, ◌≤◌}
+use Rattle.nap_make.specs.Types.{Entry, Fits, Ghosts, Hand, LineMaker, MakeFault, after, code_text, line, lines}
 use Rattle.nap_codes.specs.declared.code_set.CharSet.{CharSet}
-use Rattle.nap_list.specs.declared.attribute.Hand.{Hand}
 use Rattle.nap_list.specs.declared.attribute.Pen.TheVariants.{After}
-use Rattle.nap_list.specs.declared.entry.Entry.{Entry}
-use Rattle.nap_list.specs.declared.entry.Entry.TheVariants as entry
-use Rattle.nap_list.specs.declared.sink.Sink.{Ghosts}
 use Rattle.nap_list.specs.declared.sink.SinkFault.{SinkFault}
-use Rattle.nap_list.specs.declared.sink.SinkFault.TheVariants as sink_faults
 use Rattle.nap_list.specs.declared.state.State.{State}
-use Rattle.nap_list.specs.State.{Fits, after}
-use Rattle.nap_lines.specs.Lines.{line, code_text}
-use Rattle.nap_lines.specs.Listing.{lines}
 use Rattle.nap_make.specs.Entries.{IsProper}
 use Rattle.nap_make.specs.ListMaking.{MakerHasPut, SinkBroke, SinkTook}
-use Rattle.nap_make.specs.declared.lines.fault.MakeFault.{MakeFault}
-use Rattle.nap_make.specs.declared.lines.fault.MakeFault.TheVariants as faults
-use Rattle.nap_make.specs.declared.lines.maker.LineMaker.{LineMaker}
-use Rattle.nap_make.specs.declared.lines.run.CharLine.{CharLine}
+use Rattle.nap_make.specs.declared.lines.maker.CharLine.{CharLine}
 
 -- Lines that differ from the one before in their character alone.
 
@@ -24,13 +14,13 @@ use Rattle.nap_make.specs.declared.lines.run.CharLine.{CharLine}
 pub record HasCharLine (l : CharLine) (e : Entry) : Type 0 where
   pub hand : Hand
   pub code : ℕ
-  pub entry_is : e ≡ entry.Char l.set code hand
+  pub entry_is : e ≡ Entry.Char l.set code hand
   pub after_text : hand.pen ≡ After
-  pub parts : (c : ℕ) → line (entry.Char l.set c hand) ≡ l.front.now ++ (code_text c ++ l.back.now)
+  pub parts : (c : ℕ) → line (Entry.Char l.set c hand) ≡ l.front.now ++ (code_text c ++ l.back.now)
 
 -- the entry isn't a character after text
 abbrev pub IsNoCharLine : Entry → Type 0
-IsNoCharLine e = (set : CharSet) (code : ℕ) (hand : Hand) → e ≡ entry.Char set code hand → hand.pen ≢ After
+IsNoCharLine e = (set : CharSet) (code : ℕ) (hand : Hand) → e ≡ Entry.Char set code hand → hand.pen ≢ After
 
 -- a line with this code, with LF
 abbrev pub code_line : CharLine → ℕ → List ℕ
@@ -59,14 +49,14 @@ pub record LeavesRest {S : Type 0} (g : Ghosts S) (m : LineMaker S) (bytes rest 
   pub less : length rest ≤ length bytes
 
 abbrev pub fault_of_sink : SinkFault → MakeFault
-fault_of_sink sink_faults.Memory = faults.Memory
-fault_of_sink sink_faults.Write = faults.Write
+fault_of_sink SinkFault.Memory = MakeFault.Memory
+fault_of_sink SinkFault.Write = MakeFault.Write
 
 -- the entries were put after these; or memory ran out after some, or the device failed during one
 abbrev pub PutsEntries : {S : Type 0} → Ghosts S → S → List Entry → List Entry → LineMaker S → Result (Unit {0}) MakeFault → Type 0
 PutsEntries g s es ds m (Ok done) = MakerHasPut g s (es ++ ds) m
-PutsEntries g s es ds m (Err faults.Memory) = (d : List Entry) × (rest : List Entry) × (ds ≡ d ++ rest) × SinkTook g s (es ++ d) m.sink
-PutsEntries g s es ds m (Err faults.Write) = (d : List Entry) × (e : Entry) × (rest : List Entry) × (ds ≡ d ++ e ∷ rest) × SinkBroke g s (es ++ d) e m.sink
+PutsEntries g s es ds m (Err MakeFault.Memory) = (d : List Entry) × (rest : List Entry) × (ds ≡ d ++ rest) × SinkTook g s (es ++ d) m.sink
+PutsEntries g s es ds m (Err MakeFault.Write) = (d : List Entry) × (e : Entry) × (rest : List Entry) × (ds ≡ d ++ e ∷ rest) × SinkBroke g s (es ++ d) e m.sink
 PutsEntries g s es ds m (Err _) = ⊥
 
 -- The bytes were read up to the rest, and are the lines of entries that were put after these.

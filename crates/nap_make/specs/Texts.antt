@@ -1,12 +1,7 @@
-use Rattle.std.specs.Prelude.{ℕ, ◌≡◌, List, length}
-use Rattle.nap_list.specs.declared.entry.Entry.{Entry}
-use Rattle.nap_list.specs.Reading.{Reading, NoneFailed, IsCutOff}
-use Rattle.nap_make.specs.declared.lines.fault.MakeFault.{MakeFault}
-use Rattle.nap_make.specs.declared.lines.fault.MakeFault.TheVariants as faults
-use Rattle.nap_make.specs.declared.lines.fault.ListFault.{ListFault}
-use Rattle.nap_make.specs.declared.lines.fault.ListFault.TheVariants as list_faults
+use Rattle.std.specs.Prelude.{List, length, ℕ, ◌≡◌}
+use Rattle.nap_make.specs.Types.{Entry, IsCutOff, ListFault, MakeFault, NoneFailed, Reading}
 use Rattle.nap_make.specs.Lists.{MakesNone}
-use Rattle.nap_make.specs.declared.page.memory.MadePage.{MadePage}
+use Rattle.nap_make.specs.declared.page.MadePage.{MadePage}
 use Rattle.nap_make.specs.Making.{IsMadeOf}
 use Rattle.nap_make.specs.Pages.{RefusesLinesBy}
 
@@ -18,23 +13,23 @@ IsPageMade p page = (made : IsMadeOf page.text.items p) × (page.count ≡ lengt
 
 -- why the lines make no page; memory may run out anywhere, also for the page
 abbrev pub DeniesLines : List ℕ → MakeFault → Type 0
-DeniesLines p faults.Memory = Unit {0}
-DeniesLines p faults.Write = ⊥
+DeniesLines p MakeFault.Memory = Unit {0}
+DeniesLines p MakeFault.Write = ⊥
 DeniesLines p fault = (before : List Entry) × MakesNone p before fault
 
 -- Why an input whose bytes p were read gives no page: it failed or was read too often; memory ran out, and no read
 -- failed; or its lines make none.
 abbrev pub DeniesInput : List ℕ → Reading → ListFault → Type 0
-DeniesInput p seen list_faults.Read = IsCutOff seen p
-DeniesInput p seen (list_faults.Lines faults.Memory) = NoneFailed seen
-DeniesInput p seen (list_faults.Lines fault) = (before : List ℕ) × RefusesLinesBy p seen before fault
+DeniesInput p seen ListFault.Read = IsCutOff seen p
+DeniesInput p seen (ListFault.Lines MakeFault.Memory) = NoneFailed seen
+DeniesInput p seen (ListFault.Lines fault) = (before : List ℕ) × RefusesLinesBy p seen before fault
 
 -- the fault where a failed write to memory is lack of memory
 abbrev pub fault_of_text : MakeFault → MakeFault
-fault_of_text faults.Write = faults.Memory
+fault_of_text MakeFault.Write = MakeFault.Memory
 fault_of_text fault = fault
 
 -- the same of an input
 abbrev pub fault_of_input : ListFault → ListFault
-fault_of_input (list_faults.Lines fault) = list_faults.Lines (fault_of_text fault)
-fault_of_input list_faults.Read = list_faults.Read
+fault_of_input (ListFault.Lines fault) = ListFault.Lines (fault_of_text fault)
+fault_of_input ListFault.Read = ListFault.Read

@@ -2,11 +2,11 @@
 ghost use Rattle.std.specs.Prelude.{◌<◌, length};
 ghost use Rattle.nap_make.specs.Sorts.{AddsValue};
 
-use crate::attribute::{colour_field, look_field, pel_field, pen_field, texture_field};
-use crate::choice::{char_set, cursor_kind, mask, plain_step};
-use crate::colour::grb;
+use crate::attribute::{
+    char_set, colour_field, cursor_kind, grb, look_field, mask, pel_field, pen_field, plain_step,
+    point, texture_field,
+};
 use crate::number::{self, addr, code, three_words};
-use crate::place::point;
 use arrayvec::ArrayVec;
 use nap_codes::{CharSet, CursorKind, Mask, TextStep};
 use nap_list::{Colour, Pen, TextLook, Texture};
@@ -61,6 +61,16 @@ impl Default for Value {
     }
 }
 
+/// Appends a value of this variant, or returns that there is none.
+macro_rules! push_or_return {
+    ($values:ident, $variant:ident, $found:expr) => {
+        match $found {
+            Some(value) => $values.push(Value::$variant(value)),
+            None => return false,
+        }
+    };
+}
+
 impl Sort {
     /// Appends the value of this sort whose text a word is, if it is one.
     pub(crate) fn read(self, word: &[u8], values: &mut ArrayVec<Value, FIELDS>) -> bool
@@ -68,62 +78,20 @@ impl Sort {
         ensures { AddsValue self word.now values.old.items values.new.items result }
     {
         match self {
-            Sort::Addr => match addr(word) {
-                Some(value) => values.push(Value::Addr(value)),
-                None => return false,
-            },
-            Sort::Code => match code(word) {
-                Some(value) => values.push(Value::Code(value)),
-                None => return false,
-            },
-            Sort::Colour => match colour_field(word) {
-                Some(value) => values.push(Value::Colour(value)),
-                None => return false,
-            },
-            Sort::Cursor => match cursor_kind(word) {
-                Some(value) => values.push(Value::Cursor(value)),
-                None => return false,
-            },
-            Sort::Look => match look_field(word) {
-                Some(value) => values.push(Value::Look(value)),
-                None => return false,
-            },
-            Sort::Mask => match mask(word) {
-                Some(value) => values.push(Value::Mask(value)),
-                None => return false,
-            },
-            Sort::Parts => match grb(word) {
-                Some(value) => values.push(Value::Parts(value)),
-                None => return false,
-            },
-            Sort::Pel => match pel_field(word) {
-                Some(value) => values.push(Value::Pel(value)),
-                None => return false,
-            },
-            Sort::Pen => match pen_field(word) {
-                Some(value) => values.push(Value::Pen(value)),
-                None => return false,
-            },
-            Sort::Point => match point(word) {
-                Some(value) => values.push(Value::Point(value)),
-                None => return false,
-            },
-            Sort::Set => match char_set(word) {
-                Some(value) => values.push(Value::Set(value)),
-                None => return false,
-            },
-            Sort::Step => match plain_step(word) {
-                Some(value) => values.push(Value::Step(value)),
-                None => return false,
-            },
-            Sort::Texture => match texture_field(word) {
-                Some(value) => values.push(Value::Texture(value)),
-                None => return false,
-            },
-            Sort::Word => match number::word(word) {
-                Some(value) => values.push(Value::Word(value)),
-                None => return false,
-            },
+            Sort::Addr => push_or_return!(values, Addr, addr(word)),
+            Sort::Code => push_or_return!(values, Code, code(word)),
+            Sort::Colour => push_or_return!(values, Colour, colour_field(word)),
+            Sort::Cursor => push_or_return!(values, Cursor, cursor_kind(word)),
+            Sort::Look => push_or_return!(values, Look, look_field(word)),
+            Sort::Mask => push_or_return!(values, Mask, mask(word)),
+            Sort::Parts => push_or_return!(values, Parts, grb(word)),
+            Sort::Pel => push_or_return!(values, Pel, pel_field(word)),
+            Sort::Pen => push_or_return!(values, Pen, pen_field(word)),
+            Sort::Point => push_or_return!(values, Point, point(word)),
+            Sort::Set => push_or_return!(values, Set, char_set(word)),
+            Sort::Step => push_or_return!(values, Step, plain_step(word)),
+            Sort::Texture => push_or_return!(values, Texture, texture_field(word)),
+            Sort::Word => push_or_return!(values, Word, number::word(word)),
             Sort::Times => match three_words(word) {
                 Some((on, (off, delay))) => values.push(Value::Times(on, off, delay)),
                 None => return false,

@@ -3,8 +3,11 @@ ghost use Rattle.std.specs.Prelude.{◌≡◌, ◌≢◌, ◌++◌, ◌∷◌, �
 ghost use Rattle.nap_make.specs.Kinds.{IsKindOf, IsPlainKind};
 
 use crate::cutting::{equals, rest_after};
-use crate::field::Sort;
-use crate::row::Row;
+use crate::field::Sort::{
+    self, Addr, Code, Colour, Cursor, Look, Mask, Parts, Pel, Pen, Point, Set, Step, Texture,
+    Times, Word,
+};
+use crate::reading::Row;
 
 /// A kind of lines that have fields, by what they begin with.
 #[derive(Clone, Copy, Drop)]
@@ -75,25 +78,15 @@ impl Kind {
     fn with_long_name(name: &[u8]) -> Option<Kind>
         ensures { MatchOption result ((k : Kind) → HasLongName k → name.now ≢ line_name k) (λ k. (name.now ≡ line_name k) × IsPlainKind k) }
     {
-        if equals(name, b"ARC-OUTLINED") {
-            return Some(Kind::ArcOutlined);
+        match name {
+            _ if equals(name, b"ARC-OUTLINED") => Some(Kind::ArcOutlined),
+            _ if equals(name, b"RECT-OUTLINED") => Some(Kind::RectOutlined),
+            _ if equals(name, b"RECT-FILLED") => Some(Kind::RectFilled),
+            _ if equals(name, b"POLY-OUTLINED") => Some(Kind::PolyOutlined),
+            _ if equals(name, b"POLY-FILLED") => Some(Kind::PolyFilled),
+            _ if equals(name, b"BLINK-START") => Some(Kind::BlinkStart),
+            _ => None,
         }
-        if equals(name, b"RECT-OUTLINED") {
-            return Some(Kind::RectOutlined);
-        }
-        if equals(name, b"RECT-FILLED") {
-            return Some(Kind::RectFilled);
-        }
-        if equals(name, b"POLY-OUTLINED") {
-            return Some(Kind::PolyOutlined);
-        }
-        if equals(name, b"POLY-FILLED") {
-            return Some(Kind::PolyFilled);
-        }
-        if equals(name, b"BLINK-START") {
-            return Some(Kind::BlinkStart);
-        }
-        None
     }
 
     /// Returns the kind with this name. `Position` and `Whole` have the names of `Move` and `Field`.
@@ -131,35 +124,28 @@ impl Kind {
         ensures few { length result.front.now ≤ 4 }
     {
         match self {
-            Kind::Point => Row::of(&[Sort::Point, Sort::Pel], Sort::Colour),
+            Kind::Point => Row::of(&[Point, Pel], Colour),
             Kind::Line | Kind::RectOutlined | Kind::RectFilled => Row::of(
-                &[Sort::Point, Sort::Point, Sort::Pel, Sort::Colour],
-                Sort::Texture,
+                &[Point, Point, Pel, Colour],
+                Texture,
             ),
             Kind::ArcOutlined | Kind::ArcFilled | Kind::PolyOutlined | Kind::PolyFilled => Row::of(
-                INK,
-                Sort::Texture,
+                INK, Texture,
             ),
-            Kind::Char => Row::of(
-                &[Sort::Set, Sort::Code, Sort::Pen, Sort::Colour],
-                Sort::Look,
-            ),
-            Kind::Move => Row::of(&[Sort::Step, Sort::Pen, Sort::Colour], Sort::Look),
-            Kind::Position => Row::of(
-                &[Sort::Code, Sort::Code, Sort::Pen, Sort::Colour],
-                Sort::Look,
-            ),
-            Kind::ToEol => Row::of(&[Sort::Pen, Sort::Colour], Sort::Look),
-            Kind::Map => Row::of(&[Sort::Addr], Sort::Parts),
-            Kind::Blink => Row::of(&[Sort::Addr, Sort::Times], Sort::Colour),
-            Kind::BlinkEnd | Kind::BlinkStart | Kind::BlinkStop => Row::of(&[], Sort::Colour),
-            Kind::Wait => Row::of(&[], Sort::Word),
-            Kind::Cursor => Row::of(&[], Sort::Cursor),
-            Kind::Field => Row::of(&[Sort::Point, Sort::Point], Sort::Pen),
-            Kind::Whole | Kind::Clear => Row::of(&[], Sort::Pen),
-            Kind::Reset => Row::of(&[Sort::Word, Sort::Word], Sort::Pen),
-            Kind::Glyph => Row::of(&[], Sort::Code),
-            Kind::Mask => Row::of(&[], Sort::Mask),
+            Kind::Char => Row::of(&[Set, Code, Pen, Colour], Look),
+            Kind::Move => Row::of(&[Step, Pen, Colour], Look),
+            Kind::Position => Row::of(&[Code, Code, Pen, Colour], Look),
+            Kind::ToEol => Row::of(&[Pen, Colour], Look),
+            Kind::Map => Row::of(&[Addr], Parts),
+            Kind::Blink => Row::of(&[Addr, Times], Colour),
+            Kind::BlinkEnd | Kind::BlinkStart | Kind::BlinkStop => Row::of(&[], Colour),
+            Kind::Wait => Row::of(&[], Word),
+            Kind::Cursor => Row::of(&[], Cursor),
+            Kind::Field => Row::of(&[Point, Point], Pen),
+            Kind::Whole | Kind::Clear => Row::of(&[], Pen),
+            Kind::Reset => Row::of(&[Word, Word], Pen),
+            Kind::Glyph => Row::of(&[], Code),
+            Kind::Mask => Row::of(&[], Mask),
         }
     }
 }

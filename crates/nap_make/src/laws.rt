@@ -13,7 +13,7 @@ pub fn lines_are_bounded()
     ensures { LinesAreBounded }
 {}
 
-/// No line of a well-made entry in range contains LF.
+/// No line of an entry in range contains LF.
 pub fn lines_have_no_ends()
     ensures { LinesHaveNoEnds }
 {}

@@ -2,8 +2,6 @@
 #![tactic(auto)]
 
 mod attribute;
-mod choice;
-mod colour;
 mod cutting;
 mod entry;
 mod fault;
@@ -11,13 +9,9 @@ mod field;
 mod kind;
 pub mod laws;
 mod lines;
-mod look;
 mod number;
 mod page;
-mod place;
 mod reading;
-mod row;
-mod shape;
 
 pub use cutting::split_at_byte;
 pub use fault::LineFault;

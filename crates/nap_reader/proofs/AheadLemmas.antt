@@ -1,5 +1,4 @@
-use Rattle.nap_reader.proofs.Common.{All-take, AllCharacters, Bool, CharSet, Continues, DrawFault, Entry, Err, Ghosts, IsOperandByte, IsText, IsTextByte, Leads, LexerState, List, LongRun, Machine, NoCharacters, None, Ok, Opcode, OpenRun, Option, Outcome, Placed, ReadingState, Result, RuleResult, Some, State, [], after, after_drawing, ap, append-nil, arith, begun, between, carried_words, cond, drawn_front, drawn_text, drop, drop_of_length-le, false, get_or, get_or-take, is_operand_byte, length, length-append, length-take, length-take-le, nat_lt, nat_tests, outcome_by_front, outcome_from, placed_at, placed_from, prefix_len, prefix_len-le-length, prefix_len_passes, refl, refusal, rule, run_length, run_limit, suc, sym, take, take-take, take_all, true, zero, ℕ, ◌++◌, ◌+◌, ◌-◌, ◌<◌, ◌∙◌, ◌∷◌, ◌≡◌, ◌≤◌}
-use Rattle.nap_codes.specs.declared.code.Code.TheVariants as code
+use Rattle.nap_reader.proofs.Common.{All-take, AllCharacters, Bool, CharSet, Code, Continues, DrawFault, Entry, Err, Ghosts, IsOperandByte, IsText, IsTextByte, Leads, LexerState, List, LongRun, Machine, NoCharacters, None, Ok, Opcode, OpenRun, Option, Outcome, Placed, ReadingState, Result, RuleResult, Some, State, [], after, after_drawing, ap, append-nil, arith, begun, between, carried_words, cond, drawn_front, drawn_text, drop, drop_of_length-le, false, get_or, get_or-take, is_operand_byte, length, length-append, length-take, length-take-le, nat_lt, nat_tests, outcome_by_front, outcome_from, placed_at, placed_from, prefix_len, prefix_len-le-length, prefix_len_passes, refl, refusal, rule, run_length, run_limit, suc, sym, take, take-take, take_all, true, zero, ℕ, ◌++◌, ◌+◌, ◌-◌, ◌<◌, ◌∙◌, ◌∷◌, ◌≡◌, ◌≤◌}
 use Rattle.nap_codes.specs.Front as codes
 use Rattle.nap_reader.specs.Course as course
 use Rattle.nap_reader.specs.Stream as model
@@ -25,7 +24,7 @@ operands_run n j bs few =
     operand : (b : ℕ) → is_operand_byte b ≡ true → IsOperandByte b
     operand b is = grind (arith, nat_tests)
 
-opens_nothing : (m : Machine) (op : Opcode) (x : Placed) (ys : List Placed) → m.mode ≡ between → codes.front m.sets (x.byte ∷ []) ≡ codes.complete (code.Op op) 1 m.sets →
+opens_nothing : (m : Machine) (op : Opcode) (x : Placed) (ys : List Placed) → m.mode ≡ between → codes.front m.sets (x.byte ∷ []) ≡ codes.complete (Code.Op op) 1 m.sets →
     run_length ys ≡ length ys → (outcome_from m (x ∷ ys)).entries ≡ []
 opens_nothing m op x ys mode names all =
     let run = take (run_length ys) ys in
@@ -36,7 +35,7 @@ opens_nothing m op x ys mode names all =
 
 -- The next byte is an opcode.
 module _ {S : Type 0} {g : Ghosts S} {s t : S} {h : ReadingState} (budget : ℕ) (p : List ℕ) (k : Continues g s (begun budget p) t h []) (no_body : h.open_body ≡ None) (rested : h.half ≡ []) (b : ℕ) (op : Opcode)
-    (names : codes.front h.machine.sets (b ∷ []) ≡ codes.complete (code.Op op) 1 h.machine.sets) (other : is_operand_byte b ≡ false) where
+    (names : codes.front h.machine.sets (b ∷ []) ≡ codes.complete (Code.Op op) 1 h.machine.sets) (other : is_operand_byte b ≡ false) where
   abbrev x : Placed
   x = placed_at b (length p)
 

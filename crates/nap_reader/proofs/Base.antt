@@ -7,7 +7,7 @@ pub use Rattle.nap_reader.proofs.OperandLemmas.{at_prefix, in_block, more_words,
 pub use Rattle.nap_reader.proofs.PartLemmas.{fails_spare, Fails, Known, breaks_after, breaks_longer, breaks_more, code_breaks, took_prefix}
 pub use Rattle.nap_reader.proofs.ReadingLemmas.{Lawful, TookMore, WantsMore, as_list, begins, by_itself, byte_refused, code_continues, code_ends, code_over, front_code, front_run, half_read_pauses, holds_nothing, if_err_map, is_between, is_half, leads_entries, leads_left, leads_machine, leads_on, leads_past, leads_shown, leads_to_fault, leads_to_refusal, leads_unrefused, list_more, on_ok_by, on_ok_map, opcode_of_kind, open_run_pauses, opens_drawn, pays, rest_of_nothing, run_opens, was_failed, word_joins, word_too_many}
 unfoldable pub use Rattle.nap_reader.proofs.ReadingLemmas.{leads_more}
-pub use Rattle.nap_reader.proofs.SpelledLemmas.{KindMade, acts_itself, binds_code, escape_steps, front_kind_made, front_made, nothing_yet, opcode_alone}
+pub use Rattle.nap_reader.proofs.SpelledLemmas.{KindMade, acts_itself, binds_code, escape_steps, escape_unfinished, fill_front, front_kind_made, front_made, graphic_front, nothing_yet, opcode_alone, set_characters}
 pub use Rattle.nap_reader.proofs.HasReadLemmas.{has_read_by, has_read_past_stop, stays, taken_all, taken_more}
 pub use Rattle.nap_reader.proofs.StepLemmas.{IsAt, acted_then, acts_ahead, all_prefix, all_rest, as_it_was, breaks_here, cannot_stops, code_fault_own, conveys_nothing, lacks, leads_nowhere, leads_then, no_some, stops_now, stops_own, stops_run, stops_then}
 pub use Rattle.nap_reader.proofs.StreamLemmas.{Fronts, IsOfWords, Puts, acts, by_code, by_rule, bytes_of-append, bytes_of-placed, front_fronts, length-all_at, outcome_from-front, pauses, place_at-append, prepend-append, puts_nothing, refuses}

@@ -1,7 +1,5 @@
 use Rattle.nap_reader.proofs.Common.{BreaksAmong, BreaksInRun, BreaksOff, Cause, Consumes, Consumes-trans, EndsBy, EndsEarly, Entry, Err, Fault, FeedFault, Feeds, Ghosts, HasRead, IsCollected, IsDrained, List, None, Ok, Outcome, ReadFault, Reader, Refusal, RefusedBy, Result, Some, StopsAt, StopsBy, StopsInLast, [], ap, append-nil, append_assoc, arith, begun, budget_of, cause_of, device, drop, false, get_or, inl, inr, left_of, length, length-append, means, memory, or-false, reading, reads_limit, refl, refusal_of, rules, sink_of, stream, subst, sym, take, true, ℕ, ◌++◌, ◌+◌, ◌-◌, ◌<◌, ◌||◌, ◌∙◌, ◌∷◌, ◌≡◌, ◌≢◌, ◌≤◌}
-use Rattle.nap_list.specs.declared.device.inlet.Inlet as inlet
-use Rattle.nap_reader.specs.declared.feeding.FeedFault.TheVariants as feed_fault
-use Rattle.nap_reader.specs.declared.fault.Fault.TheVariants as fault
+use Rattle.nap_list.specs.declared.device.Inlet as inlet
 use Rattle.nap_reader.proofs.Base.{breaks_longer, breaks_more, leads_unrefused, taken_all}
 use Rattle.nap_reader.proofs.LegalLemmas.{broken_among}
 use Rattle.nap_reader.proofs.PublicLaws.{begun_comes_first, end_breaks_among, more_bytes_keep_refusal}
@@ -13,13 +11,13 @@ still_refused : (budget : ℕ) (p more : List ℕ) (r : Refusal) → (begun budg
 still_refused budget p more r is = search (arith, more_bytes_keep_refusal)
 
 -- a fault that is neither the stream's own nor lack of memory is a failed device
-device_fault : (f : Fault) → cause_of f ≡ device → f ≡ fault.Sink
+device_fault : (f : Fault) → cause_of f ≡ device → f ≡ Fault.Sink
 device_fault f is = grind arith
 
-pub memory_fault : (f : Fault) → cause_of f ≡ memory → f ≡ fault.Memory
+pub memory_fault : (f : Fault) → cause_of f ≡ memory → f ≡ Fault.Memory
 memory_fault f is = grind arith
 
-module _ {S : Type 0} (g : Ghosts S) (s : S) (budget : ℕ) (t : S) (r : Refusal) (fails : r.fault ≡ fault.Sink → g.failed t ≡ true) where
+module _ {S : Type 0} (g : Ghosts S) (s : S) (budget : ℕ) (t : S) (r : Refusal) (fails : r.fault ≡ Fault.Sink → g.failed t ≡ true) where
   -- reading broke with the bytes of a page, or at their end
   breaks_off : (p : List ℕ) (known : List Entry) (o : Outcome) (rest : List Entry) → (means budget p).entries ≡ o.entries ++ rest → BreaksAmong g s budget p known o t r → BreaksOff g s budget p t r
   breaks_off p known o rest is among = search (rules, arith, breaks_longer, breaks_more, device_fault, append_assoc) depth 9
@@ -63,7 +61,7 @@ broke_off memory accepted broke = broke
 broke_off device accepted broke = broke
 
 -- The only piece of a stream was refused, or broke.
-pub piece_ends : {S : Type 0} {g : Ghosts S} {old new : Reader S g} {piece : List ℕ} {r : Refusal} {s : S} {budget : ℕ} → budget_of old ≡ budget → (r.fault ≡ fault.Sink → g.failed (sink_of new) ≡ true) → HasRead old s [] →
+pub piece_ends : {S : Type 0} {g : Ghosts S} {old new : Reader S g} {piece : List ℕ} {r : Refusal} {s : S} {budget : ℕ} → budget_of old ≡ budget → (r.fault ≡ Fault.Sink → g.failed (sink_of new) ≡ true) → HasRead old s [] →
     (i : ℕ) × StopsAt old new piece r i → EndsEarly g s budget piece (sink_of new) r (cause_of r.fault)
 piece_ends {g = g} {old} {new} {piece} {r} {s} {budget} same fails begun (i, stops) =
     subst (λ (budget : ℕ). EndsEarly g s budget piece (sink_of new) r (cause_of r.fault)) same
@@ -116,13 +114,13 @@ after_rest r (Ok done) = Ok (Err r)
 after_rest r (Err fault) = Err fault
 
 -- A stream was refused, and the rest of the input was read, or couldn't be.
-pub collected : {I S : Type 0} {i : inlet.Ghosts I} {g : Ghosts S} {old new : Reader S g} {s : S} {start mid : I} {r : Refusal} {budget : ℕ} (end : I) (most : ℕ) → budget_of old ≡ budget → HasRead old s [] → (r.fault ≡ fault.Sink → g.failed (sink_of new) ≡ true) →
-    (p : List ℕ) × Consumes (i.left start) (i.left mid) p × ((s : S) → HasRead old s [] → Feeds i old new s p start mid (Err (feed_fault.Refused r))) →
+pub collected : {I S : Type 0} {i : inlet.Ghosts I} {g : Ghosts S} {old new : Reader S g} {s : S} {start mid : I} {r : Refusal} {budget : ℕ} (end : I) (most : ℕ) → budget_of old ≡ budget → HasRead old s [] → (r.fault ≡ Fault.Sink → g.failed (sink_of new) ≡ true) →
+    (p : List ℕ) × Consumes (i.left start) (i.left mid) p × ((s : S) → HasRead old s [] → Feeds i old new s p start mid (Err (FeedFault.Refused r))) →
     (i.calls start ≤ i.calls mid) × (i.calls mid ≤ i.calls end) → most + (i.calls mid - i.calls start) ≡ reads_limit → (out : Result (Unit {0}) ReadFault) →
     (p : List ℕ) × Consumes (i.left mid) (i.left end) p × IsDrained most p (reading i mid end) out → (p : List ℕ) × Consumes (i.left start) (i.left end) p × IsCollected g s budget p (reading i start end) (after_rest r out)
 collected {i = i} {g} {old} {new} {s} {start} {mid} {r} {budget} end most same begun fails (p, read, feeds) (first, then) all out (more, rest, drained) = (p ++ more, Consumes-trans _ _ _ p more read rest, at out drained)
   where
-    h : Feeds i old new s p start mid (Err (feed_fault.Refused r))
+    h : Feeds i old new s p start mid (Err (FeedFault.Refused r))
     h = feeds s begun
 
     few : i.calls mid ≤ i.calls start + length p

@@ -1,5 +1,4 @@
 use Rattle.nap_reader.proofs.Common.{BatchFault, Cause, CountedSink, Entry, Err, FaultMatchesDevice, Ghosts, GrowsBy, HaltsAfter, List, Ok, Option, Put, PutSome, Refusal, RefusedBy, Result, SinkFault, TookPrefix, [], add-zero, ap, arith, counting, device, inl, inr, length, length-append, means, memory, refl, sink_model_of, stream, ℕ, ◌∙◌, ◌∷◌, ◌≡◌}
-use Rattle.nap_list.specs.declared.sink.SinkFault.TheVariants as faults
 
 -- A sink that counts the entries of another sink.
 
@@ -36,9 +35,9 @@ puts_none g x s t f (n, h, said) = (
 )
   where
     none : (f : SinkFault) → HaltsAfter (sink_model_of g) (x ∷ []) s.sink t n f → n ≡ 0
-    none faults.Memory h = omega (arith, h.count, ap length h.parts, length-append h.prefix (h.next ∷ h.rest))
-    none faults.Write (inl (set, same, zero)) = zero
-    none faults.Write (inr h) = omega (arith, h.count, ap length h.parts, length-append h.prefix (h.next ∷ h.rest))
+    none SinkFault.Memory h = omega (arith, h.count, ap length h.parts, length-append h.prefix (h.next ∷ h.rest))
+    none SinkFault.Write (inl (set, same, zero)) = zero
+    none SinkFault.Write (inr h) = omega (arith, h.count, ap length h.parts, length-append h.prefix (h.next ∷ h.rest))
 
 -- what a counting sink took, the other sink took
 same_prefix : {S : Type 0} (g : Ghosts S) (s t : CountedSink S) (more : List Entry) → TookPrefix (counting g) s [] more t device → TookPrefix g s.sink [] more t.sink device

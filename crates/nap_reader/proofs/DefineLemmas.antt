@@ -1,5 +1,6 @@
-use Rattle.nap_reader.proofs.Common.{AfterEscape, All, All-map, ArePending, Bool, Breaks, BreaksHere, CanAdvance, CanPass, CannotShow, Continues, Entry, Fault, Ghosts, Goes, Input, IsLive, IsNextByte, IsNextText, IsSome, LacksFrom, LacksOwn, LeadsOn, LeadsThrough, List, Memory, Moves, None, OpenBody, Option, Outcome, Passes, Placed, Reaches, Reader, ReadingState, Reads, ReadsTo, Refusal, RunAt, Some, Step, Steps, Stops, StopsByte, Store, StoreState, StoresBody, Works, [], after_body, after_charge, all_at, ap, append-nil, arith, at_byte, body_front, bytes_of, cause_of, drop, drop-append-le, ends_body, false, get_or, get_or-take, inl, inr, is_of_body, kept_list, length, length-append, length-drop, length-map, length-take-le, lt-ltb, memory, nat_tests, ne_eqb, next_bytes, past, pending_escape, place_at, placed_at, placed_by_step, position_of, prefix_len, prefix_len-drop_yes, prefix_len-le-length, prefix_len_passes, reading_state_by, refl, refusal, shown_front, store_bound, store_grown, store_limit, store_shown, stream, stream_front, subst, sym, take, take-append-le, take-map, true, ℕ, ◌*◌, ◌++◌, ◌+◌, ◌-◌, ◌<◌, ◌∙◌, ◌∷◌, ◌≡◌, ◌≢◌, ◌≤◌, ◌⊎◌}
+use Rattle.nap_reader.proofs.Common.{AfterEscape, All, All-map, ArePending, Bool, Breaks, BreaksHere, CanAdvance, CanPass, CannotShow, Continues, Entry, Fault, Ghosts, Goes, Input, IsLive, IsNextByte, IsNextText, IsSome, LacksFrom, LacksOwn, LeadsOn, LeadsThrough, List, Memory, Moves, None, OpenBody, Option, Outcome, Passes, Placed, Reaches, Reader, ReadingState, Reads, ReadsTo, Refusal, RunAt, Some, Steps, Stops, StopsByte, Store, StoreState, StoresBody, Works, [], after_body, after_charge, all_at, ap, append-nil, arith, at_byte, body_front, bytes_of, cause_of, drop, drop-append-le, ends_body, false, get_or, get_or-take, inl, inr, is_of_body, kept_list, length, length-append, length-drop, length-map, length-take-le, lt-ltb, memory, nat_tests, ne_eqb, next_bytes, past, pending_escape, place_at, placed_at, placed_by_step, position_of, prefix_len, prefix_len-drop_yes, prefix_len-le-length, prefix_len_passes, reading_state_by, refl, refusal, shown_front, store_bound, store_grown, store_limit, store_shown, stream, stream_front, subst, sym, take, take-append-le, take-map, true, ℕ, ◌*◌, ◌++◌, ◌+◌, ◌-◌, ◌<◌, ◌∙◌, ◌∷◌, ◌≡◌, ◌≢◌, ◌≤◌, ◌⊎◌}
 use Rattle.nap_reader.proofs.Base.{AreAdded, IsPlain, as_it_was, body_bound, body_grows, body_over, body_refused, body_shows, breaks_here, by_itself, byte-placed_by_step, bytes_of-placed_by_step, can_few, can_less, can_next, cannot_stops, conveys_nothing, escape_steps, lacks, leads_shown, length-all_at, length-placed_by_step, no_some, pending_body, plain_added, plain_full, space_for, state_with_body, stops_own}
+use Rattle.nap_codes.specs.declared.code.Step.TheVariants.{More}
 use Rattle.nap_reader.specs.declared.machine.Machine.{Machine}
 use Rattle.nap_reader.specs.Bodies as bodies
 use Rattle.nap_reader.specs.Stream as model
@@ -156,14 +157,14 @@ module _ {S : Type 0} {g : Ghosts S} (m : Machine S g) {input : Input} {piece : 
   bound_past hidden holds ends k = let opened = rw hidden at ending.opened in rw (holds (pending_body opened k).half) (body_bound k ends opened)
 
   -- The body is bound, and no run is open.
-  pub bound_goes : {m' : Machine S g} {after : Input} (step : Step) → b.show ≡ false → StoresBody input after (store_bound input.store b.name) None → Works m m' → (m'.work ≡ m.work) × (m'.sink ≡ m.sink) × (m'.open_run ≡ None) → Steps m.lexer 27 step m'.lexer → Goes piece 0 m input m' after
-  bound_goes {m'} {after} step hidden sets works (work, sink, closed_run) steps =
+  pub bound_goes : {m' : Machine S g} {after : Input} → b.show ≡ false → StoresBody input after (store_bound input.store b.name) None → Works m m' → (m'.work ≡ m.work) × (m'.sink ≡ m.sink) × (m'.open_run ≡ None) → (m.lexer.half ≡ [] → Steps m.lexer 27 More m'.lexer) → Goes piece 0 m input m' after
+  bound_goes {m'} {after} hidden sets works (work, sink, closed_run) steps =
       let moved = stores_moves sets refl in
       let retained = state_moved moved m' {left = input.budget - input.charged} (omega (arith, moved.budget, moved.charged)) in
       let left : (reading_state_by m' after).machine.left ≡ h.machine.left = ap (λ (h : ReadingState). h.machine.left) retained in
       let ends = λ (x : Placed) (bs : List ℕ) (is : bytes_of (next_bytes input piece) ≡ x.byte ∷ bs). ap (λ (zs : List ℕ). ends_body (get_or zs 0 0)) (sym is ∙ next_is) ∙ ending.ends in
       let holds : m.lexer.half ≡ [] → reading_state_by m' after ≡ bound =
-      λ rested. retained ∙ state_is (record h { machine = after_body h.machine b.name h.body; open_body = None; body = [] }) m' m.work (record { sets = m.lexer.sets; half = 27 ∷ [] }) None work (escape_steps m.lexer step m'.lexer rested steps) closed_run in
+      λ rested. retained ∙ state_is (record h { machine = after_body h.machine b.name h.body; open_body = None; body = [] }) m' m.work (record { sets = m.lexer.sets; half = 27 ∷ [] }) None work (escape_steps m.lexer More m'.lexer rested (steps rested)) closed_run in
       goes_by moved next.reads (omega arith) works
       (subst (λ (t : S). LeadsOn g m.sink h t (reading_state_by m' after) [] (bytes_of (next_bytes input piece))) (sym sink)
       (record {

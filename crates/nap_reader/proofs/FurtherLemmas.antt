@@ -1,4 +1,4 @@
-use Rattle.nap_reader.proofs.Common.{All-map, ArePending, Bool, Budget, Calls, CanAdvance, CanPass, CannotShow, Continues, Err, Exceeds, Fault, FaultMatchesSink, Frame, Ghosts, Goes, HasMemory, HasRead, HasReadOn, Input, IsLive, IsNextByte, IsNextText, IsSome, LacksFrom, Latches, LeadsOn, List, Memory, Moves, None, Ok, OnOk, OpenBody, Option, Overcharges, Passes, Placed, Position, Progresses, Promise, Reaches, Reader, ReadingState, Reads, ReadsFurther, ReadsTo, Refusal, Request, Result, Sink, Some, Stop, Stops, StopsByte, StopsFrom, StoreState, StoresBody, Takes, TakesBy, TakesSlice, Works, [], after_charge, all_at, ap, append-nil, append_assoc, ap₂, arith, begun, body_of, budget_of, bytes_of, drop, drop-drop, false, false≢true, inl, inr, is_some, length, length-append, length-drop, machine_of, mode_of, next_bytes, nil_from_length, past, place_at, placed_at, placed_by_step, position_of, reading_state, reading_state_by, refl, refusal, shown_front, sink_of, state_after_request, store_grown, store_limit, stream_front, subst, sym, take, take_all, true, unread, unread_of, ℕ, ◌*◌, ◌++◌, ◌+◌, ◌-◌, ◌<◌, ◌^◌, ◌∙◌, ◌∷◌, ◌≡◌, ◌≢◌, ◌≤◌, ◌⊎◌}
+use Rattle.nap_reader.proofs.Common.{All-map, ArePending, Bool, Budget, Calls, CanAdvance, CanPass, CannotShow, Continues, Err, Exceeds, Fault, FaultMatchesSink, Frame, Ghosts, Goes, HasMemory, HasRead, HasReadOn, Input, IsLive, IsNextByte, IsNextText, IsSome, LacksFrom, Latches, LeadsOn, List, Memory, Moves, None, Ok, OnOk, OpenBody, Option, Overcharges, Passes, Placed, Position, Progresses, Promise, Reaches, Reader, ReadingState, Reads, ReadsFurther, ReadsTo, Refusal, Request, Result, Sink, Some, Stop, Stops, StopsByte, StopsFrom, StoreState, StoresBody, TakesBy, TakesSlice, TakesUnder, Works, [], after_charge, all_at, ap, append-nil, append_assoc, ap₂, arith, begun, body_of, budget_of, bytes_of, drop, drop-drop, false, false≢true, inl, inr, is_some, length, length-append, length-drop, machine_of, mode_of, next_bytes, nil_from_length, past, place_at, placed_at, placed_by_step, position_of, reading_state, reading_state_by, refl, refusal, shown_front, sink_of, state_after_request, store_grown, store_limit, stream_front, subst, sym, take, take_all, true, unread, unread_of, ℕ, ◌*◌, ◌++◌, ◌+◌, ◌-◌, ◌<◌, ◌^◌, ◌∙◌, ◌∷◌, ◌≡◌, ◌≢◌, ◌≤◌, ◌⊎◌}
 use Rattle.nap_reader.proofs.Base.{Lawful, as_it_was, can_few, can_less, can_next, cannot_stops, drop_next, frames-unread, has_read_by, holds_nothing, is_between, is_half, lacks, leads_shown, length-all_at, length-next, length-placed_by_step, place_at-append, place_at-placed_by_step, stops_now, unread-store_grown}
 use Rattle.nap_reader.specs.declared.machine.Machine.{Machine}
 use Rattle.nap_reader.proofs.PieceLemmas.{reaches_called, reaches_left, reaches_on}
@@ -258,7 +258,7 @@ module _ {S : Type 0} {g : Ghosts S} {from now : Machine S g} {input : Input} {p
   pub turn_takes : TakesBy g from.sink (reading_state_by from input) now.sink (reading_state_by now input) (next_bytes input piece) count now.refusal request
   turn_takes =
       subst (λ (xs : List Placed). TakesBy g from.sink (reading_state_by from input) now.sink (reading_state_by now input) xs count now.refusal request) (sym turn.next.is)
-      (turn.takes.by (reading_state_by from input) turn.next.more turn.between turn.next.over)
+      (turn.takes.by (reading_state_by from input) turn.next.more turn.between refl turn.next.over)
 
   -- The bytes of the step can be passed.
   pub turn_passes : CanAdvance input count
@@ -381,7 +381,7 @@ module _ {S : Type 0} {g : Ghosts S} {from now : Machine S g} {input : Input} {p
 
 -- the bytes that a machine consumed of the next slice
 pub turn_is : {S : Type 0} {g : Ghosts S} {from now : Machine S g} {input : Input} {piece text : List ℕ} {first step place count : ℕ} {ended : Bool} {request : Request} → Reads input piece → (input.body ≡ None) ⊎ (next_bytes input piece ≡ []) → IsNextText input piece first step text ended →
-    Takes from now (placed_by_step first step text) ended count request → place ≡ first + step * (count - 1) → TakesSlice from now input piece count request place
+    TakesUnder input.store.names from now (placed_by_step first step text) ended count request → place ≡ first + step * (count - 1) → TakesSlice from now input piece count request place
 turn_is {piece = piece} {text = text} {first = first} {step = step} {place = place} {count = count} {ended = ended} reads ends next takes is = record {
   reads = reads;
   between = elim ends [

@@ -1,4 +1,4 @@
-use Rattle.nap_reader.proofs.Common.{All, All-append, All-cons, All-head, All-nil, All-pop, All-replicate, All-tail, Bool, CanAdvance, CanPass, Err, Exceeds, Frame, FramesIn, Innermost, Input, IsBefore, IsFrame, IsNextByte, IsNextText, IsOver, IsStore, List, None, Ok, OnErr, OnOk, Placed, Position, Promise, Reads, Result, Some, Span, StoreState, [], add-zero, all_at, ap, append-nil, append_assoc, ap₂, arith, begun, bytes_from, bytes_of, drop, drop-append-le, drop-append_seam, drop-drop, drop-map, drop-take, drop_all, drop_more, drop_of_length-le, false, frame_bytes, get_or, inl, inr, length, length-append, length-drop, length-map, length-take, ltb, ltb-false, ltb-true, map, map-set, next_bytes, nil_from_length, place_at, placed_at, placed_by_step, placed_from, position_of, promised, refl, replicate, same_from_push, set, slice_get, store_bound, store_grown, store_limit, store_shown, sublist, sublist_at, subst, suc, sym, take, take-append-le, take-append_seam, take-map, take-take, take_rest, true, unread, unread_of, zero, ℕ, ◌*◌, ◌++◌, ◌+◌, ◌-◌, ◌<◌, ◌∙◌, ◌∷◌, ◌≡◌, ◌≢◌, ◌≤◌}
+use Rattle.nap_reader.proofs.Common.{All, All-append, All-cons, All-head, All-nil, All-pop, All-replicate, All-tail, Bool, CanAdvance, CanPass, Err, Exceeds, Frame, FramesIn, Innermost, Input, IsBefore, IsFrame, IsNextByte, IsNextText, IsOver, IsStore, List, None, Ok, OnErr, OnOk, Placed, Position, Promise, Reads, Result, Some, Span, StoreState, [], add-zero, all_at, ap, append-nil, append_assoc, ap₂, arith, begun, bytes_from, bytes_of, drop, drop-append-le, drop-append_seam, drop-drop, drop-map, drop-take, drop_all, drop_more, drop_of_length-le, false, frame_bytes, get_or, if◌then◌else◌, inl, inr, length, length-append, length-drop, length-map, length-take, ltb, ltb-false, ltb-true, map, map-set, next_bytes, nil_from_length, no_names, place_at, placed_at, placed_by_step, placed_from, position_of, promised, refl, replicate, same_from_push, set, slice_get, store_bound, store_grown, store_limit, store_shown, sublist, sublist_at, subst, suc, sym, take, take-append-le, take-append_seam, take-map, take-take, take_rest, true, unread, unread_of, vec_capacity, zero, ℕ, ◌*◌, ◌++◌, ◌+◌, ◌-◌, ◌<◌, ◌∙◌, ◌∷◌, ◌≡◌, ◌≢◌, ◌≤◌}
 use Rattle.nap_reader.proofs.StreamLemmas.{bytes_of-all_at, bytes_of-append, bytes_of-placed, length-all_at}
 
 -- a part of a list is unchanged by more bytes at the end of the list
@@ -21,9 +21,20 @@ abbrev pub state_of : List ℕ → List Span → ℕ → ℕ → Promise → Sto
 state_of bytes spans from stored promise = record { names = map (sublist_at bytes) spans; bytes = bytes; body = drop from bytes; stored = stored; promise = promise }
 
 -- no name is bound
-pub none_bound : {bytes : List ℕ} {from stored : ℕ} {promise : Promise} {space : ℕ} → from ≤ length bytes → stored + (length bytes - from) ≤ store_limit → promised promise ≤ space →
-    IsStore bytes (replicate 96 (record { start = 0; end = 0 })) from stored promise space
-none_bound {from = from} begun few kept = record { bound = All-replicate (IsBefore from) 96 _ (omega arith, omega arith); all = refl; begun = begun; few = few; kept = kept }
+pub none_bound : {bytes : List ℕ} {from stored : ℕ} {promise : Promise} {space : ℕ} {bound : Bool} → from ≤ length bytes → stored + (length bytes - from) ≤ store_limit → promised promise ≤ space →
+    IsStore bytes (replicate 96 (record { start = 0; end = 0 })) from stored promise space × (bound ≡ false → map (sublist_at bytes) (replicate 96 (record { start = 0; end = 0 })) ≡ no_names)
+none_bound {from = from} begun few kept = (record { bound = All-replicate (IsBefore from) 96 _ (omega arith, omega arith); all = refl; begun = begun; few = few; kept = kept }, λ _. refl)
+
+-- what is known of a store is known still, whether bytes were appended or not
+pub still_known : {bytes : List ℕ} {spans : List Span} {from stored : ℕ} {promise : Promise} {space space' : ℕ} {bound : Bool} {old : StoreState} (more : List ℕ) {new : List ℕ} → IsStore bytes spans from stored promise space × (bound ≡ false → map (sublist_at bytes) spans ≡ no_names) →
+    state_of bytes spans from stored promise ≡ old → old.stored + length old.body + length more ≤ store_limit → space ≤ space' → (ok : Bool) → new ≡ (if ok then bytes ++ more else bytes) → IsStore new spans from stored promise space' × (bound ≡ false → map (sublist_at new) spans ≡ no_names)
+still_known {bytes} {spans} {from} more (old, none) view few wide true is =
+    let size = ap (λ (t : StoreState). t.stored + length t.body) view in
+    let long = ap length is ∙ length-append bytes more in (
+      record { bound = old.bound; all = old.all; begun = omega (arith, old.begun, long); few = omega (arith, old.begun, few, size, long, length-drop from bytes); kept = omega (arith, old.kept, wide) },
+      λ unbound. rw is (bodies-store_grown bytes more from spans old.begun old.bound ∙ none unbound),
+    )
+still_known more (old, none) view few wide false is = rw is (record { bound = old.bound; all = old.all; begun = old.begun; few = old.few; kept = omega (arith, old.kept, wide) }, none)
 
 pub grown_by : (more : List ℕ) {bytes new : List ℕ} {spans : List Span} {from stored : ℕ} {promise : Promise} {space : ℕ} {old : StoreState} → IsStore bytes spans from stored promise space → state_of bytes spans from stored promise ≡ old → new ≡ bytes ++ more → state_of new spans from stored promise ≡ store_grown old more
 grown_by more {bytes} {spans = spans} {from} store view is =
@@ -369,7 +380,7 @@ none_left input piece none all =
 
 -- The open body has grown, or memory was lacking and it is unchanged.
 pub grown : {E : Type 0} (input : Input) (new : StoreState) (more : List ℕ) (r : Result (Unit {0}) E) → OnOk r (new ≡ store_grown input.store more) → OnErr r (new ≡ input.store) → input.store.stored + length input.store.body + length more ≤ store_limit →
-    FramesIn (length new.bytes) input.frames.stack.items × (input.turns + length (unread new.bytes input.frames.stack.items) ≡ input.fed + input.charged) × (new.stored + length new.body ≤ store_limit) × (length new.bytes ≤ new.stored + length new.body + input.charged) × (new.promise.charged ≤ input.frames.stack.capacity)
+    FramesIn (length new.bytes) input.frames.stack.items × (input.turns + length (unread new.bytes input.frames.stack.items) ≡ input.fed + input.charged) × (new.stored + length new.body ≤ store_limit) × (length new.bytes ≤ new.stored + length new.body + input.charged) × (new.promise.charged ≤ vec_capacity input.frames.stack)
 grown input new more (Ok done) is err few =
     let sizes = ap (λ (t : StoreState). t.stored + length t.body) is ∙ ap (λ (n : ℕ). input.store.stored + n) (length-append input.store.body more) in
     let bytes = ap (λ (t : StoreState). length t.bytes) is ∙ length-append input.store.bytes more in

@@ -61,11 +61,11 @@ other_lanes : (least : ℕ) (v : List ℕ) → least < 128 → Each1 (Fits w8) v
 other_lanes least [] small fits = refl
 other_lanes least (b ∷ v) small fits = ap₂ (λ x xs. x ∷ xs) (other_byte least b small fits.0.fits) (other_lanes least v small fits.1)
 
-pub other_mask : (least : ℕ) (v : List ℕ) → least < 128 → length v ≡ 32 → Each1 (Fits w8) v → mask_l (map (top 7) (zip2 at_most (replicate 32 (128 - least)) (zip2 minus v (replicate 32 least)))) % 2 ^ 64 ≡ mask_l (map (is_other least) v)
-other_mask least v small long fits =
+pub other_mask : (least n : ℕ) (v : List ℕ) → least < 128 → n ≤ 64 → length v ≡ n → Each1 (Fits w8) v → mask_l (map (top 7) (zip2 at_most (replicate n (128 - least)) (zip2 minus v (replicate n least)))) % 2 ^ 64 ≡ mask_l (map (is_other least) v)
+other_mask least n v small few long fits =
     ap (λ n. mask_l (map (top 7) (zip2 at_most (replicate n (128 - least)) (zip2 minus v (replicate n least)))) % 2 ^ 64) (sym long)
     ∙ ap (λ l. mask_l l % 2 ^ 64) (other_lanes least v small fits)
-    ∙ mask_l-mod (map (is_other least) v) 64 (omega (arith, length-map v (is_other least), long))
+    ∙ mask_l-mod (map (is_other least) v) 64 (omega (arith, length-map v (is_other least), long, few))
 
 -- ---- the first of the bytes that are left
 
@@ -79,21 +79,25 @@ all_pass : (least : ℕ) (bytes : List ℕ) → prefix_len (λ b. not (is_other 
 all_pass least [] e = refl
 all_pass least (b ∷ bytes) e = none_other (is_other least b) _ (length bytes) _ (prefix_len-le-length (λ x. not (is_other least x)) bytes) (omega arith) (all_pass least bytes)
 
-by_block : (least : ℕ) (piece : List ℕ) (i : ℕ) → prefix_len (is_from least) (drop i piece) ≡ cond (eqb (prefix_len (is_from least) (chunk i 32 piece)) (length (chunk i 32 piece))) (length (chunk i 32 piece) + prefix_len (is_from least) (drop (i + 32) piece)) (prefix_len (is_from least) (chunk i 32 piece))
-by_block least piece i = ap (prefix_len (is_from least)) (chunk-drop i 32 piece) ∙ prefix_len-append (is_from least) (chunk i 32 piece) (drop (i + 32) piece)
+-- a block of n bytes from an index on
+module _ (least n : ℕ) (piece : List ℕ) (i : ℕ) (space : i + n ≤ length piece) where
+  abbrev block : List ℕ
+  block = chunk i n piece
 
--- a block with bytes of the range alone
-pub past_block : (least : ℕ) (piece : List ℕ) (i : ℕ) → i + 32 ≤ length piece → mask_l (map (is_other least) (chunk i 32 piece)) ≡ 0 → prefix_len (is_from least) (drop i piece) ≡ 32 + prefix_len (is_from least) (drop (i + 32) piece)
-past_block least piece i space none =
-    let all = simp not-not at (leading_from_mask_l (is_other least) (chunk i 32 piece) none) in
-    by_block least piece i ∙ rw (all, eq-eqb (length (chunk i 32 piece)) (length (chunk i 32 piece)) refl, length-chunk i 32 piece space)
+  by_block : prefix_len (is_from least) (drop i piece) ≡ cond (eqb (prefix_len (is_from least) block) (length block)) (length block + prefix_len (is_from least) (drop (i + n) piece)) (prefix_len (is_from least) block)
+  by_block = ap (prefix_len (is_from least)) (chunk-drop i n piece) ∙ prefix_len-append (is_from least) block (drop (i + n) piece)
 
--- a block in which the bytes of the range end
-pub in_block : (least : ℕ) (piece : List ℕ) (i : ℕ) → i + 32 ≤ length piece → 0 < mask_l (map (is_other least) (chunk i 32 piece)) → prefix_len (is_from least) (drop i piece) ≡ count_trailing_zeros 64 (mask_l (map (is_other least) (chunk i 32 piece)))
-in_block least piece i space some =
-    let block = chunk i 32 piece in
-    let first = simp not-not at (trailing_mask_l (is_other least) 64 block (omega (arith, length-chunk i 32 piece space)) some) in
-    by_block least piece i ∙ rw (ne_eqb (prefix_len (is_from least) block) (length block) (λ all. omega (arith, all_pass least block (simp not-not all)))) (sym first)
+  -- a block with bytes of the range alone
+  pub past_block : mask_l (map (is_other least) block) ≡ 0 → prefix_len (is_from least) (drop i piece) ≡ n + prefix_len (is_from least) (drop (i + n) piece)
+  past_block none =
+      let all = simp not-not at (leading_from_mask_l (is_other least) block none) in
+      by_block ∙ rw (all, eq-eqb (length block) (length block) refl, length-chunk i n piece space)
+
+  -- a block in which the bytes of the range end
+  pub in_block : (others : ℕ) → others ≡ mask_l (map (is_other least) block) → n ≤ 64 → 0 < others → prefix_len (is_from least) (drop i piece) ≡ count_trailing_zeros 64 others
+  in_block others is few some =
+      let first = simp not-not at (trailing_mask_l (is_other least) 64 block (omega (arith, length-chunk i n piece space, few)) (omega (arith, is, some))) in
+      by_block ∙ rw (is, ne_eqb (prefix_len (is_from least) block) (length block) (λ all. omega (arith, all_pass least block (simp not-not all)))) (sym first)
 
 -- ---- the first bytes
 

@@ -1,5 +1,4 @@
 use Rattle.nap_reader.proofs.Common.{Breaks, BreaksFrom, Cause, DrawFault, Entry, Ghosts, GivesSome, Leads, List, Memory, NeverWants, None, Ok, Outcome, Passes, Placed, ReadingState, Result, RuleResult, TakesPart, TakesSome, TookPart, TookPrefix, WantsBy, [], ap, append-nil, append_assoc, arith, at_byte, cause_of, device, draw_fault, false, inl, inr, kept_list, length, length-append, memory, outcome_from, refl, refusal, stream, subst, sym, true, ◌++◌, ◌∙◌, ◌∷◌, ◌≡◌, ◌≢◌}
-use Rattle.nap_draw.specs.declared.fault.DrawFault.TheVariants as draw_faults
 use Rattle.nap_draw.specs.Draws as draws
 use Rattle.nap_reader.proofs.ReadingLemmas.{Lawful, rule_part, was_failed}
 
@@ -68,12 +67,12 @@ part_from g s u {o} known adds cause k part =
 -- A rule is refused, or not all of its entries could be put.
 pub record Fails {S : Type 0} (g : Ghosts S) (by : Result RuleResult DrawFault) (t u : S) (fault : DrawFault) : Type 0 where
   pub drew : draws.DrawsBy g.took g.broke g.failed by t u fault (draws.draw_cause fault)
-  pub wants : fault ≡ draw_faults.Memory → WantsBy g by t u
-  pub gives : fault ≡ draw_faults.Sink → GivesSome by
+  pub wants : fault ≡ DrawFault.Memory → WantsBy g by t u
+  pub gives : fault ≡ DrawFault.Sink → GivesSome by
 
 -- memory isn't lacking for a sink that never wants any
 pub fails_spare : {S : Type 0} {g : Ghosts S} {by : Result RuleResult DrawFault} {t u : S} (fault : DrawFault) → Fails g by t u fault → NeverWants g t → draw_fault fault ≢ Memory
-fails_spare {g = g} {t = t} {u = u} draw_faults.Memory fails never is =
+fails_spare {g = g} {t = t} {u = u} DrawFault.Memory fails never is =
     let (drawn, by_is, _) = fails.drew in
     let wanted = subst (λ (by : Result RuleResult DrawFault). WantsBy g by t u) by_is (fails.wants refl) in
     never drawn.entries wanted.wants
@@ -95,10 +94,10 @@ code_breaks {g = g} {t = t} {u = u} {fault = fault} {by = by} after closed passe
       why = inr (refl, adds, wants);
     })
   where
-    some : (fault : DrawFault) (drawn : RuleResult) → (fault ≡ draw_faults.Memory → WantsBy g (Ok drawn) t u) → (fault ≡ draw_faults.Sink → GivesSome (Ok drawn)) → cause_of (draw_fault fault) ≢ stream →
+    some : (fault : DrawFault) (drawn : RuleResult) → (fault ≡ DrawFault.Memory → WantsBy g (Ok drawn) t u) → (fault ≡ DrawFault.Sink → GivesSome (Ok drawn)) → cause_of (draw_fault fault) ≢ stream →
         (drawn.entries ≢ []) × (cause_of (draw_fault fault) ≡ memory → g.wants t drawn.entries)
-    some draw_faults.Memory drawn wants gives broke =
+    some DrawFault.Memory drawn wants gives broke =
         let want = wants refl in
         (λ none. omega (arith, ap length none, ap length want.stops.3, length-append want.stops.0 (want.stops.1 ∷ want.stops.2)), λ _. want.wants)
-    some draw_faults.Sink drawn wants gives broke = (gives refl, λ is. let bad : ⊥ = cc in absurd bad)
+    some DrawFault.Sink drawn wants gives broke = (gives refl, λ is. let bad : ⊥ = cc in absurd bad)
     some _ drawn wants gives broke = absurd (broke refl)

@@ -1,11 +1,9 @@
-use Rattle.nap_reader.proofs.Common.{ArePending, ArePendingBetweenCodes, ArePendingBy, ArePendingIn, Bool, Budget, Code, CodeFault, CodeSets, Continues, DrawFault, Entry, Err, Ghosts, IfErr, IsDrawn, IsOpenBody, IsOpenRun, IsRefused, Leads, List, LongRun, Machine, Mode, None, Ok, OnOk, Opcode, OpenBody, OpenRun, Option, Outcome, Owes, Placed, ReadingState, Refusal, Result, RuleResult, Some, StreamFront, TakesSome, [], act, after_charge, after_drawing, all_at, ap, append-nil, append_assoc, arith, begun, between, body_front, body_front_by, bytes_of, cause_of, closed_front, code_fault, code_front, code_ranges, code_stays, cond-false, cond-true, continue, draw_fault, drawn_front, drop, drop-append_seam, drop_at, eq-eqb, false, front_by, front_in, half_read, is_operand, kept_list, kind_of, le-ltb, length, length-append, length-map, length-prefix_len, lt-ltb, map-append, opcodes_are_drawn, opened_front, outcome_by_front, outcome_from, pause, paused, pending_escape, place_at, placed_from, prefix_len-append, prepend, refl, refusal, refuse, refused_stays, rule, run_length, run_limit, shown_front, start_machine, store_limit, stream, stream_front, subst, suc, sym, take, take-append_seam, true, unfinished_by, unfinished_of, ℕ, ◌++◌, ◌+◌, ◌-◌, ◌<◌, ◌∙◌, ◌∷◌, ◌≡◌, ◌≢◌, ◌≤◌}
-use Rattle.nap_codes.specs.declared.code.Code.TheVariants as code
+use Rattle.nap_reader.proofs.Common.{ArePending, ArePendingBetweenCodes, ArePendingBy, ArePendingIn, Bool, Budget, Code, CodeFault, CodeSets, Continues, DrawFault, Entry, Err, Ghosts, IfErr, IsDrawn, IsOpenBody, IsOpenRun, IsRefused, Kind, Leads, List, LongRun, Machine, Mode, None, Ok, OnOk, Opcode, OpenBody, OpenRun, Option, Outcome, Owes, Placed, ReadingState, Refusal, Result, RuleResult, Some, StreamFront, TakesSome, [], act, after_charge, after_drawing, all_at, ap, append-nil, append_assoc, arith, begun, between, body_front, body_front_by, bytes_of, cause_of, closed_front, code_fault, code_front, code_ranges, code_stays, cond-false, cond-true, continue, draw_fault, drawn_front, drop, drop-append_seam, drop_at, eq-eqb, false, front_by, front_in, half_read, is_operand, kept_list, kind_of, le-ltb, length, length-append, length-map, length-prefix_len, lt-ltb, map-append, opcodes_are_drawn, opened_front, outcome_by_front, outcome_from, pause, paused, pending_escape, place_at, placed_from, prefix_len-append, prepend, refl, refusal, refuse, refused_stays, rule, run_length, run_limit, shown_front, start_machine, store_limit, stream, stream_front, subst, suc, sym, take, take-append_seam, true, unfinished_by, unfinished_of, ℕ, ◌++◌, ◌+◌, ◌-◌, ◌<◌, ◌∙◌, ◌∷◌, ◌≡◌, ◌≢◌, ◌≤◌}
 use Rattle.nap_codes.specs.Front as codes
 use Rattle.nap_reader.specs.Stream as model
 use Rattle.nap_reader.proofs.StreamLemmas.{begun-append, bytes_of-append, continue-prepend, outcome_from-append, outcome_from-front, outcome_from-left, prepend-append}
 use Rattle.nap_draw.specs.Draws as draws
 use Rattle.nap_reader.specs.Bodies as bodies
-use Rattle.nap_reader.specs.declared.kind.Kind.TheVariants as kinds
 use Rattle.nap_reader.proofs.SpelledLemmas.{nothing_yet}
 
 -- a list, split after one of its bytes
@@ -48,7 +46,7 @@ opcode_first m rest open_run run pending mode h =
     front_at m (rest ++ pending) mode
     ∙ rw (
       h.is,
-      code_stays m.sets (h.opcode.byte ∷ []) (bytes_of (h.operands ++ pending)) (code.Op open_run.op) 1 m.sets h.names,
+      code_stays m.sets (h.opcode.byte ∷ []) (bytes_of (h.operands ++ pending)) (Code.Op open_run.op) 1 m.sets h.names,
       h.place,
     ) refl
 
@@ -271,13 +269,13 @@ pub rest_of_nothing : (rest : List Placed) → bytes_of rest ≡ [] → rest ≡
 rest_of_nothing [] e = refl
 rest_of_nothing (x ∷ xs) e = cc
 
-pub opcode_of_kind : (c : Code) (op : Opcode) → kind_of c ≡ kinds.Opens op → c ≡ code.Op op
-opcode_of_kind (code.Op op') op e = cc
+pub opcode_of_kind : (c : Code) (op : Opcode) → kind_of c ≡ Kind.Opens op → c ≡ Code.Op op
+opcode_of_kind (Code.Op op') op e = cc
 opcode_of_kind _ op e = cc
 
 -- an opcode that opens a run has a rule
 pub opens_drawn : (sets : CodeSets) (xs : List ℕ) (c : Code) (n : ℕ) (after : CodeSets) (op : Opcode) → codes.front sets xs ≡ codes.complete c n after →
-    kind_of c ≡ kinds.Opens op → IsDrawn op
+    kind_of c ≡ Kind.Opens op → IsDrawn op
 opens_drawn sets xs c n after op e kind = search (arith, opcodes_are_drawn, opcode_of_kind, code_ranges)
 
 pub on_ok_by : {A E P : Type 0} (r : Result A E) → ((a : A) → r ≡ Ok a → P) → OnOk r P
@@ -387,7 +385,7 @@ module _ {S : Type 0} {g : Ghosts S} {s : S} {o : Outcome} {t : S} {h : ReadingS
   code_over h' no_body' mode body is' none = holds_nothing h' no_body' (mode ∙ between_pending.mode) (body ∙ between_pending.body) is' none
 
   -- an opcode opens a run, with no incomplete code before it
-  pub run_opens : (op : Opcode) → h.half ≡ [] → codes.front h.machine.sets (x.byte ∷ []) ≡ codes.complete (code.Op op) 1 h.machine.sets →
+  pub run_opens : (op : Opcode) → h.half ≡ [] → codes.front h.machine.sets (x.byte ∷ []) ≡ codes.complete (Code.Op op) 1 h.machine.sets →
       Continues g s o t (record h { half = []; open_run = Some (record { op = op; place = x.place }); run = [] }) pending
   run_opens op none alone =
       let opened : OpenRun = record { op = op; place = x.place } in

@@ -1,10 +1,9 @@
-use Rattle.nap_reader.proofs.Common.{ActsRun, All, All-head, All-tail, Bool, Codes, Continues, DrawFault, DrawsBy, Executes, FailsRun, FaultMatchesSink, Ghosts, HasRunMemory, IsLive, IsOpcodeByte, IsOver, IsSpared, IsWholeRun, KeepsMemory, LeadsOn, LeadsThrough, List, LongRun, Memory, None, Nothing, Opcode, OpenRun, Outcome, Placed, ReadingState, Refusal, Refuses, RuleResult, Some, Stop, Stops, StopsRun, Takes, WantsFor, [], ap, append-nil, append_assoc, arith, bytes_of, clear_request_if, draw_fault, drop, drop-map, drop_more, get_or, inl, inr, is_operand_byte, length, length-append, length-drop, length-map, length-take-le, map, operand_words, place_at, prefix_len, prefix_len-le-length, prefix_len_passes, refl, refusal, rule, run_limit, state_after_request, subst, sym, take, take-append-drop, true, vec_capacity, with_machine, ℕ, ◌%◌, ◌++◌, ◌+◌, ◌-◌, ◌<◌, ◌∙◌, ◌∷◌, ◌≡◌, ◌≢◌, ◌≤◌, ◌⊎◌}
+use Rattle.nap_reader.proofs.Common.{ActsRun, All, All-head, All-tail, Bool, Codes, Continues, DrawFault, DrawsBy, Executes, FailsRun, FaultMatchesSink, Ghosts, HasRunMemory, IsLive, IsOpcodeByte, IsOver, IsSpared, IsWholeRun, KeepsMemory, LeadsOn, LeadsThrough, List, LongRun, Memory, None, Nothing, Opcode, OpenRun, Outcome, Placed, ReadingState, Refusal, Refuses, RuleResult, Some, Stop, Stops, StopsRun, Takes, WantsFor, [], ap, append-nil, append_assoc, arith, bytes_of, clear_request_if, draw_fault, drop, drop-map, drop_more, false, get_or, inl, inr, is_operand_byte, length, length-append, length-drop, length-map, length-take-le, map, operand_words, place_at, prefix_len, prefix_len-le-length, prefix_len_passes, refl, refusal, rule, run_limit, state_after_request, subst, sym, take, take-append-drop, true, vec_capacity, with_machine, ℕ, ◌%◌, ◌++◌, ◌+◌, ◌-◌, ◌<◌, ◌∙◌, ◌∷◌, ◌≡◌, ◌≢◌, ◌≤◌, ◌⊎◌}
 use Rattle.nap_reader.proofs.Base.{TookMore, WantsMore, acts_ahead, as_it_was, bytes_of-append, conveys_nothing, first_of, lacks, more_words, operands_prefix, run_over, same_words, split_bytes, stops_now, stops_own, stops_run, word_joins, word_too_many}
 use Rattle.nap_reader.specs.declared.machine.Machine.{Machine}
 use Rattle.nap_reader.proofs.TakingLemmas.{Drew, LeftBy, asked_is, asks_takes, leads_after, own_spares, stop_takes, stops_after, works_on, works_still}
 use Rattle.nap_draw.specs.Draws as draws
-use Rattle.nap_draw.specs.declared.fault.DrawFault.TheVariants as draw_faults
-use Rattle.nap_reader.specs.declared.machine.codes.CodeOutcome.TheVariants as outcomes
+use Rattle.nap_reader.specs.declared.machine.codes.CodeOutcome.{CodeOutcome}
 use Rattle.nap_reader.proofs.CodesLemmas.{StartsRun, open_at, run_opened}
 
 -- A stretch of bytes has the effect of its bytes one after another.
@@ -185,8 +184,8 @@ module _ {S : Type 0} {g : Ghosts S} {mid new : Machine S g} {xs : List Placed} 
       stops_now left (stops_run (ap is_operand_byte byte ∙ next.other) (stopped h between)))
 
 -- the opcode's rule doesn't lack memory
-pub run_spares : {S : Type 0} {g : Ghosts S} (old : Machine S g) (run : List ℕ) (fault : DrawFault) → (fault ≡ draw_faults.Memory → (vec_capacity old.scratch < length run) ⊎ WantsFor g old.sink) → length run ≤ run_limit → IsSpared old → draw_fault fault ≢ Memory
-run_spares old run draw_faults.Memory lacking short spared is = elim (lacking refl) [
+pub run_spares : {S : Type 0} {g : Ghosts S} (old : Machine S g) (run : List ℕ) (fault : DrawFault) → (fault ≡ DrawFault.Memory → (vec_capacity old.scratch < length run) ⊎ WantsFor g old.sink) → length run ≤ run_limit → IsSpared old → draw_fault fault ≢ Memory
+run_spares old run DrawFault.Memory lacking short spared is = elim (lacking refl) [
   | inl few ↦ absurd (omega (arith, few, short, spared.0.1))
   | inr wanted ↦ spared.1 wanted.0 wanted.1
 ]
@@ -250,21 +249,29 @@ module _ {S : Type 0} {g : Ghosts S} {old : Machine S g} {op : Opcode} (x : Plac
         drew = rw (← run_words) drew;
       }))
 
+-- the outcome of an opcode, which may have unbound all names
+abbrev pub outcome_of : Bool → ℕ → CodeOutcome
+outcome_of true count = CodeOutcome.Clears count
+outcome_of false count = CodeOutcome.Acted count
+
+asks_codes : {S : Type 0} {g : Ghosts S} {old new : Machine S g} {bytes : List ℕ} {ended : Bool} {count : ℕ} (clears : Bool) → (0 < count) × (count ≤ length bytes) → new.open_run ≡ old.open_run →
+    ((x : Placed) (ys : List Placed) → bytes ≡ x.byte ∷ bytes_of ys → Takes old new (x ∷ ys) ended count (clear_request_if clears)) → Codes old new bytes ended (outcome_of clears count)
+asks_codes true few closed takes = record { within = few; closed = closed; by = takes }
+asks_codes false few closed takes = record { within = few; closed = closed; by = takes }
+
 module _ {S : Type 0} {g : Ghosts S} {old : Machine S g} {op : Opcode} {bytes : List ℕ} {ended : Bool} {run : List ℕ} (r : RunsWhole old op bytes ended run) where
   -- The opcode acts on its run.
-  pub opcode_acts : {new : Machine S g} (drawn : RuleResult) → LeftBy old new drawn.work old.lexer → Drew g (rule old.work op (operand_words run)) old.sink drawn new.sink → IsLive new → TookMore g → WantsMore g → Codes old new bytes ended (outcomes.Acted (length run + 1) drawn.clears)
-  opcode_acts {new} drawn left drew live more wants = record {
-    within = (omega arith, run_within r);
-    closed = left.closed ∙ sym left.before;
-    by = λ x ys is.
-        let one : length run + 1 ≡ 1 + length run = omega arith in
-        asks_takes drawn.clears (works_on _ left.kept wants drew.took drew.clear live) (omega (arith, run_within r, ap length is, length-map ys (λ (x : Placed). x.byte)))
-        (λ h following between over. rw one (whole_leads x ys (rw is at r) h following between over new drawn left drew more));
-  }
+  pub opcode_acts : {new : Machine S g} (drawn : RuleResult) → LeftBy old new drawn.work old.lexer → Drew g (rule old.work op (operand_words run)) old.sink drawn new.sink → IsLive new → TookMore g → WantsMore g → Codes old new bytes ended (outcome_of drawn.clears (length run + 1))
+  opcode_acts {new} drawn left drew live more wants =
+      asks_codes drawn.clears (omega arith, run_within r) (left.closed ∙ sym left.before)
+      (λ x ys is.
+      let one : length run + 1 ≡ 1 + length run = omega arith in
+      asks_takes drawn.clears (works_on _ left.kept wants drew.took drew.clear live) (omega (arith, run_within r, ap length is, length-map ys (λ (x : Placed). x.byte)))
+      (λ h following between over. rw one (whole_leads x ys (rw is at r) h following between over new drawn left drew more)))
 
   -- The opcode is refused on its run, or breaks.
   pub opcode_stops : {new : Machine S g} (fault : DrawFault) → new.open_run ≡ old.open_run → DrawsBy g.took g.broke g.failed (rule old.work op (operand_words run)) old.sink new.sink fault (draws.draw_cause fault) →
-      FaultMatchesSink g old.sink new.sink (draw_fault fault) → (IsSpared old → draw_fault fault ≢ Memory) → Codes old new bytes ended (outcomes.Stopped (length run + 1) (draw_fault fault) 0)
+      FaultMatchesSink g old.sink new.sink (draw_fault fault) → (IsSpared old → draw_fault fault ≢ Memory) → Codes old new bytes ended (CodeOutcome.Stopped (length run + 1) (draw_fault fault) 0)
   opcode_stops {new} fault closed drew reported spares = record {
     within = (run_within r, omega (arith, run_within r));
     closed = closed;

@@ -1,8 +1,8 @@
-use Rattle.nap_reader.proofs.Common.{AllCharacters, BodyFront, Bool, CharSet, Code, CodeSet, CodeSets, Fault, IsGraphic, IsMade, Kind, LexerState, List, Macros, Opcode, Some, Spells, Step, Steps, [], ap, arith, at_escape, body_front, code_is_spelled, code_ranges, cond, control0_rows, control1_rows, ended, eqb, eqb-true, false, get_or, kind_of, length, length-take-le, one_byte_longer, opcode_rows, refl, refused, row_of, set_at, stores, suc, take, true, unfinished, ℕ, ⊤, ◌++◌, ◌+◌, ◌-◌, ◌<◌, ◌∷◌, ◌≡◌, ◌≤◌}
-use Rattle.nap_codes.specs.declared.code.Code.TheVariants as code
+use Rattle.nap_reader.proofs.Common.{AllCharacters, BodyFront, Bool, CharSet, Code, CodeSet, CodeSets, Fault, IsGraphic, IsMade, Kind, LexerState, List, None, Opcode, Option, Some, Spells, Step, Steps, [], after_control0, arith, at_escape, body_front, code_is_spelled, code_ranges, cond, control0_rows, control1_rows, ended, eqb, eqb-true, false, false≢true, is_fill, kind_of, le-leb, length, length-take-le, lt-ltb, ne_eqb, one_byte_longer, opcode_rows, refl, refused, row_of, set_at, stores, suc, take, true, unfinished, ℕ, ⊤, ◌++◌, ◌+◌, ◌-◌, ◌<◌, ◌∷◌, ◌≡◌, ◌≤◌}
+use Rattle.nap_codes.specs.Tables.{fills}
+use Rattle.nap_codes.specs.declared.control.Row.{Row}
+use Rattle.nap_codes.specs.declared.control.Row.TheVariants.{Whole}
 use Rattle.nap_codes.specs.Front as codes
-use Rattle.nap_codes.specs.Spelling as spelling
-use Rattle.nap_reader.specs.declared.kind.Kind.TheVariants as kinds
 
 -- Codes, by their spellings.
 
@@ -26,22 +26,22 @@ opcode_row : (byte : ℕ) (op : Opcode) → row_of opcode_rows byte ≡ Some op 
 unfolding opcode_rows
 opcode_row byte op row = row_found (λ key _. IsGraphic key) opcode_rows byte op (omega arith) row
 
-opcode_graphic : (sets : CodeSets) (b : ℕ) (op : Opcode) (after : CodeSets) → Spells sets (b ∷ []) (code.Op op) after → IsGraphic b
+opcode_graphic : (sets : CodeSets) (b : ℕ) (op : Opcode) (after : CodeSets) → Spells sets (b ∷ []) (Code.Op op) after → IsGraphic b
 unfolding row_of control0_rows codes.non_pdi_code
 opcode_graphic sets b op after spelled = grind (arith, opcode_row)
 
 -- the bytes from 20 to 7F aren't characters where one of them is an opcode
-pub opcode_alone : (sets : CodeSets) (b : ℕ) (op : Opcode) → codes.front sets (b ∷ []) ≡ codes.complete (code.Op op) 1 sets → (set : CharSet) → AllCharacters sets set → ⊥
-opcode_alone sets b op is set all = cc (all b (opcode_graphic sets b op sets ((code_is_spelled sets (b ∷ []) (code.Op op) 1 sets).0 is).1))
+pub opcode_alone : (sets : CodeSets) (b : ℕ) (op : Opcode) → codes.front sets (b ∷ []) ≡ codes.complete (Code.Op op) 1 sets → (set : CharSet) → AllCharacters sets set → ⊥
+opcode_alone sets b op is set all = cc (all b (opcode_graphic sets b op sets ((code_is_spelled sets (b ∷ []) (Code.Op op) 1 sets).0 is).1))
 
 -- a definition of a macro has more than one byte
-definition_long : (sets : CodeSets) (bytes : List ℕ) (name : ℕ) (show : Bool) (after : CodeSets) → Spells sets bytes (code.DefMacro name show) after → 2 ≤ length bytes
+definition_long : (sets : CodeSets) (bytes : List ℕ) (name : ℕ) (show : Bool) (after : CodeSets) → Spells sets bytes (Code.DefMacro name show) after → 2 ≤ length bytes
 unfolding row_of control0_rows control1_rows codes.non_pdi_code
 definition_long sets bytes name show after spelled = grind arith
 
-pub definition_length : (sets : CodeSets) (bytes : List ℕ) (name : ℕ) (show : Bool) (n : ℕ) (after : CodeSets) → codes.front sets bytes ≡ codes.complete (code.DefMacro name show) n after → 2 ≤ n
+pub definition_length : (sets : CodeSets) (bytes : List ℕ) (name : ℕ) (show : Bool) (n : ℕ) (after : CodeSets) → codes.front sets bytes ≡ codes.complete (Code.DefMacro name show) n after → 2 ≤ n
 definition_length sets bytes name show n after e =
-    let spelled = (code_is_spelled sets bytes (code.DefMacro name show) n after).0 e in
+    let spelled = (code_is_spelled sets bytes (Code.DefMacro name show) n after).0 e in
     omega (arith, definition_long sets (take n bytes) name show after spelled.1, length-take-le n bytes spelled.0)
 
 -- The effect of ESC on the lexer.
@@ -57,6 +57,47 @@ escape_unfinished sets = refl
 
 pub escape_steps : (old : LexerState) (step : Step) (new : LexerState) → old.half ≡ [] → Steps old 27 step new → new ≡ record { sets = old.sets; half = 27 ∷ [] }
 escape_steps old step new none h = let k = rw (none, escape_unfinished old.sets) at h in k.1
+
+-- The codes of one byte of the set in GL.
+
+control0_below : (byte : ℕ) (row : Row) → row_of control0_rows byte ≡ Some row → byte < 0x20
+unfolding control0_rows
+control0_below byte row is = row_found (λ key _. key < 0x20) control0_rows byte row (omega arith) is
+
+graphic_row : (byte : ℕ) → 0x20 ≤ byte → row_of control0_rows byte ≡ None
+graphic_row byte from = at (row_of control0_rows byte) refl
+  where
+    at : (row : Option Row) → row_of control0_rows byte ≡ row → row_of control0_rows byte ≡ None
+    at None is = is
+    at (Some row) is = absurd (omega (arith, control0_below byte row is, from))
+
+pub graphic_front : (sets : CodeSets) (set : CodeSet) (byte : ℕ) (c : Code) → set_at sets sets.gl ≡ set → IsGraphic byte → codes.non_pdi_code set byte ≡ Some c → (rest : List ℕ) → codes.front sets (byte ∷ rest) ≡ codes.complete c 1 sets
+unfolding codes.front codes.control0_front codes.gl_front
+graphic_front sets set byte c is graphic named rest = rw (graphic_row byte graphic.0, le-leb 0x20 byte graphic.0, lt-ltb byte 0x80 graphic.1, is, named) refl
+
+pub set_characters : (sets : CodeSets) (set : CodeSet) (chars : CharSet) → set_at sets sets.gl ≡ set → ((byte : ℕ) → codes.non_pdi_code set byte ≡ Some (Code.Char chars byte)) → AllCharacters sets chars
+set_characters sets set chars is named byte graphic = graphic_front sets set byte (Code.Char chars byte) is graphic (named byte) []
+
+-- The controls without effect.
+
+fill_row : (row : Option Row) → fills row ≡ true → row ≡ Some (Whole Code.Fill)
+fill_row (Some (Whole Code.Fill)) is = refl
+fill_row _ is = let bad : false ≡ true = is in absurd (false≢true bad)
+
+shift_rows : (row_of control0_rows 0x0E ≡ Some (Whole Code.Shifted)) × (row_of control0_rows 0x0F ≡ Some (Whole Code.Shifted))
+unfolding row_of control0_rows
+shift_rows = (refl, refl)
+
+-- they change no code set
+fill_after : (sets : CodeSets) (byte : ℕ) → row_of control0_rows byte ≡ Some (Whole Code.Fill) → after_control0 sets byte ≡ sets
+unfolding after_control0
+fill_after sets byte row =
+    let (out, in_) = shift_rows in
+    rw (ne_eqb byte 0x0E (λ is. let bad : ⊥ = cc in bad), ne_eqb byte 0x0F (λ is. let bad : ⊥ = cc in bad)) refl
+
+pub fill_front : (sets : CodeSets) (byte : ℕ) → is_fill byte ≡ true → codes.front sets (byte ∷ []) ≡ codes.complete Code.Fill 1 sets
+unfolding codes.front codes.control0_front
+fill_front sets byte is = let row = fill_row (row_of control0_rows byte) is in rw (row, fill_after sets byte row) refl
 
 -- The state of a body that is known is unchanged by further bytes.
 
@@ -88,9 +129,9 @@ body_front-Settled space (byte ∷ bytes) more = let further = body_front-Settle
 
 -- a code that acts has parameters in range, and so has the name of a macro
 abbrev pub KindMade : Kind → Type 0
-KindMade (kinds.Acts c) = IsMade c
-KindMade (kinds.Calls name) = IsGraphic name
-KindMade (kinds.Binds name show) = IsGraphic name
+KindMade (Kind.Acts c) = IsMade c
+KindMade (Kind.Calls name) = IsGraphic name
+KindMade (Kind.Binds name show) = IsGraphic name
 KindMade _ = ⊤
 
 -- so has the code at a front
@@ -101,9 +142,9 @@ pub front_kind_made : (sets : CodeSets) (xs : List ℕ) (c : Code) (n : ℕ) (af
 front_kind_made sets xs c n after e = let range = code_ranges sets xs c n after e in grind arith
 
 -- the code that defines a macro
-pub binds_code : (c : Code) (name : ℕ) (show : Bool) → kind_of c ≡ kinds.Binds name show → c ≡ code.DefMacro name show
+pub binds_code : (c : Code) (name : ℕ) (show : Bool) → kind_of c ≡ Kind.Binds name show → c ≡ Code.DefMacro name show
 binds_code c name show e = grind arith
 
 -- a code that acts is itself what acts
-pub acts_itself : (c acting : Code) → kind_of c ≡ kinds.Acts acting → kind_of c ≡ kinds.Acts c
+pub acts_itself : (c acting : Code) → kind_of c ≡ Kind.Acts acting → kind_of c ≡ Kind.Acts c
 acts_itself c acting e = grind arith

@@ -1,7 +1,5 @@
 use Rattle.nap_reader.proofs.Common.{All, All-map, Bool, Code, CodeSets, DrawFault, Entry, IsMade, IsWord, Kind, List, LongRun, Machine, None, Ok, Opcode, Option, Outcome, Placed, Refusal, Result, RuleResult, Some, StreamFront, Unfinished, Work, [], act, after_body, all_at, ap, append-nil, append_assoc, arith, begun, between, body_front_by, body_of, bound_front, bytes_of, carried_words, code_front, code_length, code_rule, code_stays, cond, continue, continue_by, drawn_front, drop, drop-append-le, drop_of_length-le, ends_of, eqb-false, eqb-true, false, front_by, get_or, get_or-take, half_read, in_body, is_operand, kind_of, length, length-append, length-drop, length-map, length-prefix_len, lt-ltb, ltb, ltb-false, ltb-true, map-append, nat_tests, open_run, opened_front, outcome, outcome_by_front, outcome_from, outcome_within, pause, paused, place_at, placed_from, prefix_len-append, prefix_len-le-length, prefix_len_passes, prepend, refl, refusal, refuse, refused_index, refused_stays, rule, run_front, run_length, run_limit, shown_front, steps_left, stream_front, subst, suc, sym, take, take-append-le, true, zero, ℕ, ⊤, ◌++◌, ◌+◌, ◌-◌, ◌<◌, ◌∙◌, ◌∷◌, ◌≡◌, ◌≤◌}
-use Rattle.nap_codes.specs.declared.code.Code.TheVariants as code
 use Rattle.nap_codes.specs.Front as codes
-use Rattle.nap_reader.specs.declared.kind.Kind.TheVariants as kinds
 use Rattle.nap_reader.specs.Bodies as bodies
 use Rattle.nap_reader.specs.Course as course
 use Rattle.nap_reader.proofs.SpelledLemmas.{KindMade, Settled, body_front-Settled, definition_length, front_kind_made}
@@ -112,7 +110,7 @@ opcode_fronts m op place xs q k h =
 
 -- the smallest number of bytes of a code of this kind
 abbrev least : Kind → ℕ
-least (kinds.Binds name show) = 2
+least (Kind.Binds name show) = 2
 least _ = 1
 
 code_fronts : (m : Machine) (kind : Kind) (place : ℕ) (rest q : List Placed) (k : ℕ) → m.mode ≡ between → length rest + (least kind + m.left) ≤ k → KindMade kind →
@@ -123,14 +121,14 @@ code_fronts m kind place rest q k mode h made = at kind h made
     still = ap ends_of mode
 
     at : (kind : Kind) → length rest + (least kind + m.left) ≤ k → KindMade kind → Fronts q m.work m.left k (code_front m kind place rest) (code_front m kind place (rest ++ q))
-    at (kinds.Opens op) h made = opcode_fronts m op place rest q k (omega (arith, still))
-    at kinds.Strays h made = refuses
-    at kinds.AddsNothing h made = acts refl (omega (arith, still)) (omega arith) puts_nothing
-    at (kinds.Acts c) h made = drawn_fronts m place rest q (code_rule m.work c) k (omega (arith, still)) (λ d is. by_code c d made is)
-    at (kinds.Calls name) h made = shown_fronts m place (body_of m.names name) rest q k (omega (arith, still))
-    at (kinds.Binds name show) h made =
-        drawn_fronts (record m { mode = in_body name show }) place rest q (code_rule m.work (code.DefMacro name show)) k (omega (arith, still))
-        (λ d is. by_code (code.DefMacro name show) d tt is)
+    at (Kind.Opens op) h made = opcode_fronts m op place rest q k (omega (arith, still))
+    at Kind.Strays h made = refuses
+    at Kind.AddsNothing h made = acts refl (omega (arith, still)) (omega arith) puts_nothing
+    at (Kind.Acts c) h made = drawn_fronts m place rest q (code_rule m.work c) k (omega (arith, still)) (λ d is. by_code c d made is)
+    at (Kind.Calls name) h made = shown_fronts m place (body_of m.names name) rest q k (omega (arith, still))
+    at (Kind.Binds name show) h made =
+        drawn_fronts (record m { mode = in_body name show }) place rest q (code_rule m.work (Code.DefMacro name show)) k (omega (arith, still))
+        (λ d is. by_code (Code.DefMacro name show) d tt is)
 
 least_of : (sets : CodeSets) (bytes : List ℕ) (c : Code) (n : ℕ) (after : CodeSets) → codes.front sets bytes ≡ codes.complete c n after → least (kind_of c) ≤ n
 least_of sets bytes c n after e = grind (arith, definition_length, code_length)

@@ -1,4 +1,4 @@
-use Rattle.nap_reader.proofs.Common.{Bool, Call, Calls, Clear, Define, DoesNothing, DrawFault, Entry, Fault, FaultMatchesSink, Ghosts, IsLive, IsOver, IsSpared, KeepsMemory, LeadsOn, LeadsThrough, Leaves, LexerState, List, Memory, NeverWants, None, Nothing, Ok, OpenRun, Option, Placed, ReadingState, Refusal, Request, Result, RuleResult, Sink, Some, Stop, Stops, StopsByte, Takes, TakesBy, Work, Works, [], ap, arith, bytes_of, cause_of, clear_request_if, drop, drop-append-le, drop-drop, drop_more, false, false≢true, get_or, if◌then◌else◌, length, length-drop, memory, no_names, place_at, placed_by_step, refl, run_by, state_after_request, stream, subst, suc, sym, take, take-add, take-append-drop, take_all, true, with_machine, zero, ℕ, ◌*◌, ◌++◌, ◌+◌, ◌-◌, ◌<◌, ◌∙◌, ◌∷◌, ◌≡◌, ◌≢◌, ◌≤◌}
+use Rattle.nap_reader.proofs.Common.{Bool, Call, Calls, Clear, Define, DoesNothing, DrawFault, Entry, Fault, FaultMatchesSink, Ghosts, IsLive, IsOver, IsSpared, KeepsMemory, LeadsOn, LeadsThrough, Leaves, LexerState, List, Memory, NeverWants, None, Nothing, Ok, OpenRun, Option, Placed, ReadingState, Refusal, Request, Result, RuleResult, Sink, Some, Stop, Stops, StopsByte, Takes, TakesBy, TakesUnder, Work, Works, [], ap, arith, bytes_of, cause_of, clear_request_if, drop, drop-append-le, drop-drop, drop_more, false, false≢true, get_or, if◌then◌else◌, length, length-drop, memory, no_names, place_at, placed_by_step, refl, run_by, state_after_request, stream, subst, suc, sym, take, take-add, take-append-drop, take_all, true, with_machine, zero, ℕ, ◌*◌, ◌++◌, ◌+◌, ◌-◌, ◌<◌, ◌∙◌, ◌∷◌, ◌≡◌, ◌≢◌, ◌≤◌}
 use Rattle.nap_reader.proofs.Base.{WantsMore, bytes_of-append, bytes_of-placed_by_step, leads_nowhere, leads_then, stops_then}
 use Rattle.nap_reader.specs.declared.machine.Machine.{Machine}
 
@@ -167,15 +167,25 @@ takes_none {g = g} {xs = xs} left same live = record {
   by = λ h following between over. leads_nowhere (bytes_of (xs ++ following)) same (left_is left h);
 }
 
+-- What a machine does whatever names are bound, it does where these are.
+pub takes_under : {S : Type 0} {g : Ghosts S} {names : List (List ℕ)} {old new : Machine S g} {xs : List Placed} {ended : Bool} {count : ℕ} {request : Request} → Takes old new xs ended count request → TakesUnder names old new xs ended count request
+takes_under t = record { within = t.within; leaves = t.leaves; by = λ h following between bound over. t.by h following between over }
+
+takes_always : {S : Type 0} {g : Ghosts S} {old new : Machine S g} {xs : List Placed} {ended : Bool} {count : ℕ} {request : Request} → ((names : List (List ℕ)) → TakesUnder names old new xs ended count request) → Takes old new xs ended count request
+takes_always t = record { within = (t []).within; leaves = (t []).leaves; by = λ h following between over. (t h.machine.names).by h following between refl over }
+
 -- The machine consumes more of the bytes that are left.
-pub takes_then : {S : Type 0} {g : Ghosts S} {old mid new : Machine S g} {xs : List Placed} {ended : Bool} {count n all : ℕ} {request : Request} → Takes old mid xs ended count Nothing → Takes mid new (drop count xs) ended n request → all ≡ count + n → Takes old new xs ended all request
-takes_then {old = old} {mid = mid} {new = new} {xs = xs} {count = count} {n = n} {request = request} t takes is = rw is record {
+pub under_then : {S : Type 0} {g : Ghosts S} {names : List (List ℕ)} {old mid new : Machine S g} {xs : List Placed} {ended : Bool} {count n all : ℕ} {request : Request} → TakesUnder names old mid xs ended count Nothing → TakesUnder names mid new (drop count xs) ended n request → all ≡ count + n → TakesUnder names old new xs ended all request
+under_then {old = old} {mid = mid} {new = new} {xs = xs} {count = count} {n = n} {request = request} t takes is = rw is record {
   within = omega (arith, t.within, takes.within, length-drop count xs);
   leaves = leaves_from old mid new request t.leaves takes.leaves;
-  by = λ h following between over.
-      takes_after (xs ++ following) count (t.by h following between over) new h request n
-      (rw (drop-append-le count xs following t.within) (takes.by h following between over));
+  by = λ h following between bound over.
+      takes_after (xs ++ following) count (t.by h following between bound over) new h request n
+      (rw (drop-append-le count xs following t.within) (takes.by h following between bound over));
 }
+
+pub takes_then : {S : Type 0} {g : Ghosts S} {old mid new : Machine S g} {xs : List Placed} {ended : Bool} {count n all : ℕ} {request : Request} → Takes old mid xs ended count Nothing → Takes mid new (drop count xs) ended n request → all ≡ count + n → Takes old new xs ended all request
+takes_then t takes is = takes_always (λ names. under_then (takes_under t) (takes_under takes) is)
 
 -- A machine that did nothing goes on as before.
 module _ {S : Type 0} {g : Ghosts S} {old mid : Machine S g} (idle : DoesNothing old mid) (live : IsLive old) where

@@ -1,4 +1,5 @@
-use Rattle.nap_reader.proofs.Common.{Bool, EndsAt, GoesThrough, List, [], and_block, and_mask, and_self, ap, ap₂, arith, bit_and, bit_at, bit_at-pow_other, bit_at-pow_same, bit_at-trailing_zeros, bit_at-zero, bit_at_above, bit_at_cat_high, bit_at_cat_low, bit_mask_l, cases_lt, cond, div-add-mod', drop, drop-drop, false, format_effector, get_or, get_or-drop, get_or-map, get_or-take, inl, inr, is_from, is_of_text, is_other, is_some, length, length-chunk, length-drop, length-map, map, mask_l-lt, mod_below, mod_self, pow-suc, pow_pos, prefix_len, prefix_len_is, refl, same_from_bits_below, suc, sym, trailing_zeros, true, zero, ℕ, ◌%◌, ◌*◌, ◌+◌, ◌-◌, ◌/◌, ◌<◌, ◌^◌, ◌∙◌, ◌∷◌, ◌≡◌, ◌≤◌, ◌⊎◌}
+use Rattle.nap_reader.proofs.Common.{Bool, EndsAt, GoesThrough, List, [], and_block, and_mask, and_self, ap, ap₂, arith, bit_and, bit_at, bit_at-pow_other, bit_at-pow_same, bit_at-trailing_zeros, bit_at-zero, bit_at_above, bit_at_cat_high, bit_at_cat_low, bit_mask_l, cases_lt, cond, div-add-mod', drop, drop-drop, false, format_effector, get_or, get_or-drop, get_or-map, get_or-take, inl, inr, is_from, is_of_text, is_other, is_some, length, length-chunk, length-drop, length-map, map, mask_l-lt, mod_below, mod_self, pow-suc, pow_pos, prefix_len, prefix_len_is, prefix_len_passes, refl, same_from_bits_below, suc, sym, trailing_zeros, true, zero, ℕ, ◌%◌, ◌*◌, ◌+◌, ◌-◌, ◌/◌, ◌<◌, ◌^◌, ◌∙◌, ◌∷◌, ◌≡◌, ◌≤◌, ◌⊎◌}
+use Rattle.nap_reader.proofs.OperandLemmas.{past_block}
 use lib.Lanes.{chunk, mask_l}
 use mir.Syntax.{w64}
 
@@ -106,6 +107,17 @@ all_pass_first p [] (suc n) few pass = absurd (omega arith)
 all_pass_first p (x ∷ xs) (suc n) few pass =
     let rest = all_pass_first p xs n (omega arith) (λ k less. pass (suc k) (omega arith)) in
     rw (pass 0 (omega arith)) (omega (arith, rest))
+
+-- a byte from 20 to 7F is of a text
+of_range : (b : ℕ) → is_from 32 b ≡ true → is_of_text b ≡ true
+of_range b is = grind arith
+
+-- the bytes of a block that are all from 20 to 7F are of a text
+pub past_text : (n : ℕ) (piece : List ℕ) (at : ℕ) → at + n ≤ length piece → mask_l (map (is_other 32) (chunk at n piece)) ≡ 0 → prefix_len is_of_text (drop at piece) ≡ n + prefix_len is_of_text (drop (at + n) piece)
+past_text n piece at within none =
+    all_pass_first is_of_text (drop at piece) n (omega (arith, length-drop at piece, within))
+    (λ k less. of_range (get_or (drop at piece) k 0) (prefix_len_passes (is_from 32) (drop at piece) k 0 (omega (arith, less, past_block 32 n piece at within none))))
+    ∙ ap (λ xs. n + prefix_len is_of_text xs) (drop-drop n at piece)
 
 -- what is known once some bits are left
 module _ {piece : List ℕ} {at rest : ℕ} (within : at + 32 ≤ length piece) (k : LeavesOthers piece at rest) where

@@ -1,8 +1,6 @@
 use Rattle.nap_reader.proofs.Common.{All, All-cons, All-head, All-nil, All-tail, AllCharacters, CharSet, CodeSets, Entry, Ghosts, HaltsAfter, IsText, IsTextByte, Kind, List, Machine, None, Option, Outcome, Owes, Placed, ReadingState, SinkFault, Some, State, Stops, TakesSome, TextStep, [], after, ap, append-nil, append_assoc, ap₂, arith, at_byte, bytes_of, cause_of, code_as, code_front, draw_fault, drawn_front, drawn_text, drop, fault_of, format_effector, format_effector_front, get_or-append_seam, hand_of, inl, inr, kind_of, length, length-append, memory, place_at, refl, refusal, rule_result, sink_model_of, stream, subst, suc, sym, take, text_code, text_entry, typed_rule, walk, ℕ, ◌++◌, ◌+◌, ◌<◌, ◌∙◌, ◌∷◌, ◌≡◌, ◌≢◌}
 use Rattle.nap_reader.proofs.Base.{all_prefix, first_of, front_code, holds_nothing, is_between, is_half, leads_past, list_more, pays, split_bytes}
 use Rattle.nap_codes.specs.Front as codes
-use Rattle.nap_list.specs.declared.sink.SinkFault.TheVariants as sink_faults
-use Rattle.nap_reader.specs.declared.kind.Kind.TheVariants as kinds
 use Rattle.nap_reader.proofs.TakingLemmas.{place_at-drop}
 
 -- A stretch of text has the effect of its characters and format effectors one after another.
@@ -12,7 +10,7 @@ pub are_typed : (sets : CodeSets) (set : CharSet) → AllCharacters sets set →
 are_typed sets set are b is = search (arith, format_effector_front) steps 100000
 
 -- a character and a format effector act by their rule
-typed_acts : (step : Option TextStep) (set : CharSet) (b : ℕ) → kind_of (code_as step set b) ≡ kinds.Acts (code_as step set b)
+typed_acts : (step : Option TextStep) (set : CharSet) (b : ℕ) → kind_of (code_as step set b) ≡ Kind.Acts (code_as step set b)
 typed_acts (Some step) set b = refl
 typed_acts None set b = refl
 
@@ -73,13 +71,13 @@ pub record HaltsAt {S : Type 0} (g : Ghosts S) (s : State) (set : CharSet) (q : 
 
 pub halts_at : {S : Type 0} (g : Ghosts S) (s : State) (set : CharSet) (q : List ℕ) (i : ℕ) (t u : S) (fault : SinkFault) → 0 < length q → HaltsAfter (sink_model_of g) (drawn_text s set q) t u i fault → HaltsAt g s set q i t u fault
 unfolding drawn_text walk
-halts_at g s set q i t u sink_faults.Memory some h =
+halts_at g s set q i t u SinkFault.Memory some h =
     let (before, byte, following, parts, same, last, count) = text_parts s set q h.prefix h.next h.rest h.parts in
     record { before = before; byte = byte; following = following; parts = parts; count = sym h.count ∙ count; part = inr ([], _, [], refl, rw (append-nil, ← same) h.taken); wants = λ _. rw (← same, ← last) h.wants }
-halts_at g s set [] i t u sink_faults.Write some (inl h) = absurd (omega arith)
-halts_at g s set (b ∷ q) i t u sink_faults.Write some (inl (failed, same, none)) =
+halts_at g s set [] i t u SinkFault.Write some (inl h) = absurd (omega arith)
+halts_at g s set (b ∷ q) i t u SinkFault.Write some (inl (failed, same, none)) =
     record { before = []; byte = b; following = q; parts = refl; count = none; part = inl (failed, same, refl); wants = λ is. let bad : ⊥ = cc in absurd bad }
-halts_at g s set q i t u sink_faults.Write some (inr h) =
+halts_at g s set q i t u SinkFault.Write some (inr h) =
     let (before, byte, following, parts, same, last, count) = text_parts s set q h.prefix h.next h.rest h.parts in
     record { before = before; byte = byte; following = following; parts = parts; count = sym h.count ∙ count; part = inr ([], _, [], refl, rw (append-nil, ← same, ← last) h.broken); wants = λ is. let bad : ⊥ = cc in absurd bad }
 

@@ -1,6 +1,5 @@
 use Rattle.std.specs.Prelude.{ℕ, suc, ◌-◌, ◌==◌, ◌&&◌, nat_le, Bool, if◌then◌else◌, List, [], ◌∷◌, get_or, set, replicate}
 use Rattle.nap_reader.specs.declared.fault.Fault.{Fault}
-use Rattle.nap_reader.specs.declared.fault.Fault.TheVariants as faults
 
 -- The bodies of macros (PROFILE.md, Macros).
 
@@ -38,7 +37,7 @@ one_byte_longer (ended n) = ended (suc n)
 
 -- a byte of the body, which needs space in the store
 abbrev pub stores : ℕ → BodyFront → BodyFront
-stores space further = if space == 0 then refused faults.Store 0 else one_byte_longer further
+stores space further = if space == 0 then refused Fault.Store 0 else one_byte_longer further
 
 -- whether a byte after ESC ends a body: DEF MACRO, DEFP MACRO, DEFT MACRO, DEF DRCS, DEF TEXTURE or END
 abbrev pub ends_body : ℕ → Bool
@@ -48,11 +47,11 @@ ends_body byte = nat_le 0x40 byte && nat_le byte 0x45
 abbrev pub at_escape : ℕ → List ℕ → BodyFront → BodyFront
 at_escape space [] further = unfinished
 at_escape space (byte ∷ bytes) further =
-    if nat_le 0x80 byte then refused faults.EighthBit 1 else if ends_body byte then ended 0 else stores space further
+    if nat_le 0x80 byte then refused Fault.EighthBit 1 else if ends_body byte then ended 0 else stores space further
 
 abbrev pub at_byte : ℕ → ℕ → List ℕ → BodyFront → BodyFront
 at_byte space byte bytes further =
-    if nat_le 0x80 byte then refused faults.EighthBit 0 else if byte == 0x1B then at_escape space bytes further else stores space further
+    if nat_le 0x80 byte then refused Fault.EighthBit 0 else if byte == 0x1B then at_escape space bytes further else stores space further
 
 -- what comes after the name of a definition, if the store has this much space left
 unfoldable pub body_front : ℕ → List ℕ → BodyFront

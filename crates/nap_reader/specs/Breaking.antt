@@ -1,8 +1,7 @@
-use Rattle.std.specs.Prelude.{◌≡◌, ◌≢◌, ◌<◌, ◌⊎◌, ◌++◌, ℕ, true, false, List, [], ◌∷◌, Option, Some, None, IsSome, if◌then◌else◌, length, take, slice_index}
+use Rattle.std.specs.Prelude.{IsSome, List, None, Option, Some, [], false, if◌then◌else◌, length, slice_index, take, true, ℕ, ◌++◌, ◌<◌, ◌∷◌, ◌≡◌, ◌≢◌, ◌⊎◌}
+use Rattle.nap_reader.specs.Names.{BreaksAmid, StopsAmid}
 use Rattle.nap_reader.specs.Below.{Ghosts, Entry, Cause, stream, memory, device}
-use Rattle.nap_list.specs.Putting.{StopsAmid, BreaksAmid}
 use Rattle.nap_reader.specs.declared.fault.Fault.{Fault}
-use Rattle.nap_reader.specs.declared.fault.Fault.TheVariants as faults
 use Rattle.nap_reader.specs.declared.fault.Refusal.{Refusal}
 use Rattle.nap_reader.specs.Stream.{Outcome, Unfinished, open_run, open_body, is_operand_byte, begun, with_run}
 
@@ -10,8 +9,8 @@ use Rattle.nap_reader.specs.Stream.{Outcome, Unfinished, open_run, open_body, is
 
 -- the cause of a refusal, by its fault
 abbrev pub cause_of : Fault → Cause
-cause_of faults.Memory = memory
-cause_of faults.Sink = device
+cause_of Fault.Memory = memory
+cause_of Fault.Sink = device
 cause_of _ = stream
 
 -- the sink never wants memory

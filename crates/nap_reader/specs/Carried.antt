@@ -1,8 +1,7 @@
-use Rattle.std.specs.Prelude.{ℕ, Option, Some, None, ⊤, ◌≡◌, [], ◌∷◌}
+use Rattle.std.specs.Prelude.{None, Option, Some, [], ℕ, ⊤, ◌∷◌, ◌≡◌}
+use Rattle.nap_reader.specs.Names.{Code, IsDrawn-prop}
 use Rattle.std.proofs.Props.{props}
 use Rattle.nap_reader.specs.Below.{IsDrawn, CharSet, CodeSets, IsGraphic, LexerState}
-use Rattle.nap_draw.specs.Carried.{IsDrawn-prop}
-use Rattle.nap_codes.specs.declared.code.Code.TheVariants as code
 use Rattle.nap_codes.specs.Front as codes
 use Rattle.nap_reader.specs.declared.body.OpenBody.{OpenBody}
 use Rattle.nap_reader.specs.declared.machine.OpenRun.{OpenRun}
@@ -28,7 +27,7 @@ HasName-prop (Some body) = hlevel props
 
 -- each of the bytes from 20 to 7F alone is a character of this set
 abbrev pub AllCharacters : CodeSets → CharSet → Type 0
-AllCharacters sets set = (b : ℕ) → IsGraphic b → codes.front sets (b ∷ []) ≡ codes.complete (code.Char set b) 1 sets
+AllCharacters sets set = (b : ℕ) → IsGraphic b → codes.front sets (b ∷ []) ≡ codes.complete (Code.Char set b) 1 sets
 
 -- the bytes from 20 to 7F aren't characters while a run is open
 abbrev pub NoCharacters : LexerState → Option OpenRun → Type 0

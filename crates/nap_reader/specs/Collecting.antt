@@ -1,6 +1,6 @@
-use Rattle.std.specs.Prelude.{ℕ, ◌≡◌, ◌⊎◌, ◌^◌, ◌≤◌, true, List, [], Option, None, Some, Result, Ok, Err, length}
+use Rattle.std.specs.Prelude.{Err, List, None, Ok, Option, Result, Some, [], length, true, ℕ, ◌^◌, ◌≡◌, ◌≤◌, ◌⊎◌}
+use Rattle.nap_reader.specs.Names.{IsCutOff, IsReadWhole, NoneFailed, ReadFailed, Reading}
 use Rattle.nap_reader.specs.Shared.{Cause, stream, memory, device, Ghosts, Refusal, cause_of, BreaksWithin, LacksWithin, TookPrefix, means}
-use Rattle.nap_list.specs.Reading.{Reading, NoneFailed, ReadFailed, IsCutOff, IsReadWhole}
 use Rattle.nap_reader.specs.Laws.{WantsSome}
 use Rattle.nap_reader.specs.declared.feeding.ReadFault.{ReadFault}
 

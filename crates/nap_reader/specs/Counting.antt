@@ -1,8 +1,7 @@
-use Rattle.std.specs.Prelude.{ℕ, ◌+◌, List, [], ◌++◌, Option, length}
+use Rattle.std.specs.Prelude.{List, Option, [], length, ℕ, ◌++◌, ◌+◌}
+use Rattle.nap_reader.specs.Names.{Entry, Ghosts}
 use Rattle.std.proofs.Common.{length-append}
 use Rattle.std.proofs.Math.Nat.{add-zero, add_assoc}
-use Rattle.nap_list.specs.declared.entry.Entry.{Entry}
-use Rattle.nap_list.specs.declared.sink.Sink.{Ghosts}
 use Rattle.nap_reader.specs.Collecting.{IsCount}
 
 -- The model of a sink that counts the entries of another sink: that sink, and the number of entries it took, if a `u64`

@@ -1,11 +1,9 @@
-use Rattle.std.specs.Prelude.{◌≡◌, ◌≢◌, ◌+◌, ◌<◌, ◌≤◌, ◌++◌, ℕ, List, Bool, true, false, Option, Some, None, Result, Ok, Err, length, take, slice_index, ⊤}
+use Rattle.std.specs.Prelude.{Bool, Err, List, None, Ok, Option, Result, Some, false, length, slice_index, take, true, ℕ, ⊤, ◌++◌, ◌+◌, ◌<◌, ◌≡◌, ◌≢◌, ◌≤◌}
+use Rattle.nap_reader.specs.Names.{Consumes, IsCutOff, IsReadWhole, NoneFailed, Reading, reading}
 use Rattle.nap_reader.specs.Shared.{Ghosts, Refusal, Reader, cause_of, begun}
-use Rattle.std.specs.Io.KnownBytes.{Consumes}
-use Rattle.nap_list.specs.declared.device.inlet.Inlet as inlet
-use Rattle.nap_list.specs.Reading.{Reading, NoneFailed, IsCutOff, IsReadWhole, reading}
-use Rattle.nap_reader.specs.declared.fault.Fault.TheVariants as faults
+use Rattle.nap_list.specs.declared.device.Inlet as inlet
+use Rattle.nap_reader.specs.declared.fault.Fault.{Fault}
 use Rattle.nap_reader.specs.declared.feeding.FeedFault.{FeedFault}
-use Rattle.nap_reader.specs.declared.feeding.FeedFault.TheVariants as feed_fault
 use Rattle.nap_reader.specs.ReaderAnswers.{HasRead, StopsBy, budget_of, left_of, refusal_of, sink_of}
 
 -- Feeding a reader what an input gives.
@@ -26,12 +24,12 @@ pub record LastRead {I : Type 0} (i : inlet.Ghosts I) (budget : ℕ) (p : List �
 -- the input was read to its end; or it failed, or was read too often, before its end; or the stream was refused
 abbrev pub EndsBy : List ℕ → Reading → Option Refusal → Result (Unit {0}) FeedFault → Type 0
 EndsBy p seen refusal (Ok done) = IsReadWhole seen p × (refusal ≡ None)
-EndsBy p seen refusal (Err feed_fault.Read) = IsCutOff seen p × (refusal ≡ None)
-EndsBy p seen refusal (Err (feed_fault.Refused r)) = NoneFailed seen × (refusal ≡ Some r)
+EndsBy p seen refusal (Err FeedFault.Read) = IsCutOff seen p × (refusal ≡ None)
+EndsBy p seen refusal (Err (FeedFault.Refused r)) = NoneFailed seen × (refusal ≡ Some r)
 
 -- a refusal came at a byte of the last read
 abbrev pub StopsInLast : {S : Type 0} → Ghosts S → S → ℕ → List ℕ → List ℕ → S → ℕ → Result (Unit {0}) FeedFault → Type 0
-StopsInLast g s budget before last t left (Err (feed_fault.Refused r)) =
+StopsInLast g s budget before last t left (Err (FeedFault.Refused r)) =
     (i : ℕ) × (i < length last) × StopsBy g s budget (before ++ take i last) (slice_index last i) t left r (cause_of r.fault)
 StopsInLast g s budget before last t left _ = ⊤
 
@@ -44,5 +42,5 @@ pub record Feeds {I S : Type 0} (i : inlet.Ghosts I) {g : Ghosts S} (old new : R
 
 -- whether the sink has failed, which is so only if that is the refusal
 abbrev pub FailsBy : Bool → Result (Unit {0}) FeedFault → Type 0
-FailsBy failed (Err (feed_fault.Refused r)) = (r.fault ≡ faults.Sink → failed ≡ true) × (r.fault ≢ faults.Sink → failed ≡ false)
+FailsBy failed (Err (FeedFault.Refused r)) = (r.fault ≡ Fault.Sink → failed ≡ true) × (r.fault ≢ Fault.Sink → failed ≡ false)
 FailsBy failed _ = failed ≡ false

@@ -1,10 +1,7 @@
-use Rattle.std.specs.Prelude.{◌≡◌, ◌≢◌, ◌⊎◌, ◌<◌, ◌≤◌, ◌+◌, ℕ, false, List, [], ◌∷◌, ◌++◌, Some, None, All, ⊤, length, take, slice_index}
+use Rattle.std.specs.Prelude.{All, List, None, Some, [], false, length, slice_index, take, ℕ, ⊤, ◌++◌, ◌+◌, ◌<◌, ◌∷◌, ◌≡◌, ◌≢◌, ◌≤◌, ◌⊎◌}
+use Rattle.nap_reader.specs.Names.{AllInRange, IsOperandByte, Legal}
 use Rattle.nap_reader.specs.Shared.{Code, CodeSets, Opcode, code_rule, stream, memory, rule, Entry, Ghosts, run_limit, Refusal, between, cause_of, BreaksFrom, BreaksInRun, BreaksWithin, LacksWithin, pause, continue, outcome_by_front, Placed, Machine, Outcome, bytes_of, carried_words, is_operand, open_run, drawn_front, stream_front, placed_from, outcome_from, begun, means}
-use Rattle.nap_values.specs.Laws.{IsOperandByte}
-use Rattle.nap_codes.specs.declared.code.Code.TheVariants as code
 use Rattle.nap_codes.specs.Front as codes
-use Rattle.nap_list.specs.State.{Legal}
-use Rattle.nap_list.specs.Range.{AllInRange}
 use Rattle.nap_reader.specs.ReaderAnswers.{StopsBy}
 
 -- The outcome of a list is that of its front, and then that of the list that remains.
@@ -14,7 +11,7 @@ FrontAfterFront = (m : Machine) (xs : List Placed) → outcome_from m xs ≡ out
 -- between two codes, the byte of an opcode, and after it operand bytes, no more than a run may have
 pub record IsRun (m : Machine) (op : Opcode) (x : Placed) (operands : List Placed) : Type 0 where
   pub mode : m.mode ≡ between
-  pub names : codes.front m.sets (x.byte ∷ []) ≡ codes.complete (code.Op op) 1 m.sets
+  pub names : codes.front m.sets (x.byte ∷ []) ≡ codes.complete (Code.Op op) 1 m.sets
   pub carriers : All IsOperandByte (bytes_of operands)
   pub few : length operands ≤ run_limit
 
@@ -30,10 +27,10 @@ RunWaits = (m : Machine) (op : Opcode) (x : Placed) (operands : List Placed) →
 
 -- The code acts alone: it is neither an opcode nor an operand, and neither calls nor defines a macro.
 abbrev pub IsAlone : Code → Type 0
-IsAlone (code.Op op) = ⊥
-IsAlone (code.Operand word) = ⊥
-IsAlone (code.Call name) = ⊥
-IsAlone (code.DefMacro name show) = ⊥
+IsAlone (Code.Op op) = ⊥
+IsAlone (Code.Operand word) = ⊥
+IsAlone (Code.Call name) = ⊥
+IsAlone (Code.DefMacro name show) = ⊥
 IsAlone _ = ⊤
 
 -- between two codes, the bytes of a code that acts alone, the last of which is this one, and the code sets after the

@@ -25,3 +25,4 @@ pub mod ReadingStates
 pub mod Steps
 pub mod NextBytes
 pub mod Pieces
+pub mod Names

@@ -1,12 +1,11 @@
 use Rattle.std.specs.Prelude.{All, Bool, List, None, Some, [], length, slice_index, take, ℕ, ◌++◌, ◌+◌, ◌-◌, ◌<◌, ◌∷◌, ◌≡◌, ◌≤◌}
-use Rattle.std.specs.Option.{ForNone}
-use Rattle.nap_list.specs.Agreement.{StatesAgree}
+use Rattle.nap_reader.specs.Names.{ForNone, StatesAgree}
 use Rattle.nap_reader.specs.Shared.{Continues, Fault, Ghosts, Memory, store_limit, ReadingState, Input, Placed, Reader, Refusal, RunAt, begun, bytes_of, reading_state_by, place_at, placed_at, placed_by_step, Entry, Outcome, Owes}
 use Rattle.nap_reader.specs.declared.machine.Machine.{Machine}
 use Rattle.nap_reader.specs.declared.machine.Request.{Request}
 use Rattle.nap_reader.specs.NextBytes.{HasReadOn, IsNextText, Position, Reads, bytes_from, position_of, promise_after}
 use Rattle.nap_reader.specs.ReaderAnswers.{HasRead, StopsAt, budget_of, fed_of, refusal_of, sink_of, turns_of}
-use Rattle.nap_reader.specs.Steps.{Acted, FaultMatchesSink, HasRunMemory, IsSpared, Takes, Works}
+use Rattle.nap_reader.specs.Steps.{Acted, FaultMatchesSink, HasRunMemory, IsSpared, TakesUnder, Works}
 
 -- How a piece is read. No caller sees these definitions.
 
@@ -92,7 +91,7 @@ pub record TakesSlice {S : Type 0} {g : Ghosts S} (old now : Machine S g) (input
   pub text : List ℕ
   pub ended : Bool
   pub next : IsNextText input piece first step text ended
-  pub takes : Takes old now (placed_by_step first step text) ended count request
+  pub takes : TakesUnder input.store.names old now (placed_by_step first step text) ended count request
   pub last : 0 < count → place ≡ place_at (placed_by_step first step text) (count - 1)
 
 -- A reader has memory for another reading of the stream that the first one has read.

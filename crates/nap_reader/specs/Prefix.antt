@@ -1,6 +1,5 @@
-use Rattle.std.specs.Prelude.{ℕ, ◌≡◌, ◌+◌, ◌<◌, ◌&&◌, ◌||◌, ◌==◌, not, nat_lt, nat_le, Bool, List, drop, is_some, length}
-use Rattle.std.specs.List.{prefix_len}
-use Rattle.nap_codes.specs.Tables.{format_effector}
+use Rattle.std.specs.Prelude.{Bool, List, drop, is_some, length, nat_le, nat_lt, not, ℕ, ◌&&◌, ◌+◌, ◌<◌, ◌==◌, ◌||◌, ◌≡◌}
+use Rattle.nap_reader.specs.Names.{format_effector, prefix_len}
 
 -- whether a byte is from this least one to 7F
 abbrev pub is_from : ℕ → ℕ → Bool

@@ -1,6 +1,6 @@
-use Rattle.std.specs.Prelude.{⊤, ◌≡◌, ◌≤◌, ◌-◌, ◌+◌, ◌++◌, ℕ, false, List, [], ◌∷◌, Option, Some, None, length}
+use Rattle.std.specs.Prelude.{List, None, Option, Some, [], false, length, ℕ, ⊤, ◌++◌, ◌+◌, ◌-◌, ◌∷◌, ◌≡◌, ◌≤◌}
+use Rattle.nap_reader.specs.Names.{Code, start}
 use Rattle.nap_reader.specs.Below.{operand_words, CodeSets, Ghosts, Entry, stream, run_limit, Work}
-use Rattle.nap_codes.specs.declared.code.Code.TheVariants as code
 use Rattle.nap_codes.specs.Front as codes
 use Rattle.nap_reader.specs.declared.fault.Refusal.{Refusal}
 use Rattle.nap_reader.specs.declared.body.OpenBody.{OpenBody}
@@ -15,7 +15,6 @@ use Rattle.nap_reader.specs.Course.{prepend}
 use Rattle.nap_reader.specs.Stream as model
 use Rattle.nap_reader.specs.Stream.{Placed, Machine, Outcome, Unfinished, open_body, refusal, bytes_of, carried_words, run_length, half_read, outcome_from}
 use Rattle.nap_reader.specs.Breaking.{cause_of}
-use Rattle.nap_list.specs.State.{start}
 
 -- The state of a reader between two bytes, and how it leads to the meaning of the stream. No caller sees these
 -- definitions.
@@ -82,7 +81,7 @@ pub record IsOpenRun (rest : List Placed) (open_run : OpenRun) (run : List ℕ) 
   pub operands : List Placed
   pub is : rest ≡ opcode ∷ operands
   pub place : opcode.place ≡ open_run.place
-  pub names : codes.front sets (opcode.byte ∷ []) ≡ codes.complete (code.Op open_run.op) 1 sets
+  pub names : codes.front sets (opcode.byte ∷ []) ≡ codes.complete (Code.Op open_run.op) 1 sets
   pub words : carried_words operands ≡ run
   pub all : run_length operands ≡ length operands
   pub short : length run ≤ run_limit

@@ -1,18 +1,12 @@
-use Rattle.std.specs.Prelude.{All, Bool, List, None, Ok, Option, Some, [], drop, false, get_or, if◌then◌else◌, length, slice_index, take, true, vec_capacity, ℕ, ⊤, ◌*◌, ◌++◌, ◌+◌, ◌-◌, ◌<◌, ◌∷◌, ◌≡◌, ◌≢◌, ◌≤◌, ◌⊎◌}
+use Rattle.std.specs.Prelude.{All, Bool, List, None, Ok, Option, Some, [], drop, false, get_or, if◌then◌else◌, length, slice_index, take, true, vec_capacity, ℕ, ⊤, ◌*◌, ◌++◌, ◌+◌, ◌<◌, ◌∷◌, ◌≡◌, ◌≢◌, ◌≤◌, ◌⊎◌}
+use Rattle.nap_reader.specs.Names.{Code, IsShift, State, StatesAgree}
 use Rattle.nap_reader.specs.Shared.{run_limit, CharSet, CodeSets, Continues, DrawFault, RuleResult, DrawsBy, Entry, Fault, Ghosts, ReadingState, IsDrawn, IsGraphic, ArePending, IsOwn, IsRefused, IsTextByte, LexerState, Memory, NeverWants, Opcode, OpenBody, OpenRun, Outcome, Placed, Refusal, RunAt, Sink, after_drawing, body_of, bytes_of, cause_of, draw_fault, stream_front, in_body, is_operand, is_operand_byte, no_names, place_at, placed_at, placed_by_step, refusal, rule, run_by, shown_front, stream, Cause, Ends, Owes, begun, device, kept_list, memory, with_run}
 use Rattle.nap_codes.specs.Front as codes
-use Rattle.nap_codes.specs.Lexer.{IsShift}
-use Rattle.nap_codes.specs.declared.code.Code.TheVariants as code
-use Rattle.nap_list.specs.Agreement.{StatesAgree}
-use Rattle.nap_list.specs.declared.state.State.{State}
 use Rattle.nap_draw.specs.Draws as draws
 use Rattle.nap_reader.specs.declared.machine.Machine.{Machine}
 use Rattle.nap_reader.specs.declared.machine.Request.{Request}
-use Rattle.nap_reader.specs.declared.machine.Request.TheVariants as requests
 use Rattle.nap_reader.specs.declared.machine.codes.FrontCode.{FrontCode}
-use Rattle.nap_reader.specs.declared.machine.codes.FrontCode.TheVariants as fronts
 use Rattle.nap_reader.specs.declared.machine.codes.CodeOutcome.{CodeOutcome}
-use Rattle.nap_reader.specs.declared.machine.codes.CodeOutcome.TheVariants as outcomes
 use Rattle.nap_reader.specs.Carried.{AllCharacters}
 use Rattle.nap_list.specs.Putting as put
 
@@ -148,8 +142,8 @@ with_machine h m = record h {
 
 -- the reading state once the input has done what a code requests
 abbrev pub state_after_request : ReadingState → Request → ReadingState
-state_after_request h requests.Clear = record h { machine = record h.machine { names = no_names } }
-state_after_request h (requests.Define name show) = record h {
+state_after_request h Request.Clear = record h { machine = record h.machine { names = no_names } }
+state_after_request h (Request.Define name show) = record h {
   machine = record h.machine { mode = in_body name show };
   open_body = Some (record { name = name; show = show; escape = None });
 }
@@ -157,7 +151,7 @@ state_after_request h _ = h
 
 -- what an opcode requests: perhaps to unbind all names
 abbrev pub clear_request_if : Bool → Request
-clear_request_if clears = if clears then requests.Clear else requests.Nothing
+clear_request_if clears = if clears then Request.Clear else Request.Nothing
 
 -- The bytes before this index lead to a state in which the byte there completes a call of the macro of this name.
 pub record Calls {S : Type 0} (g : Ghosts S) (t : S) (h : ReadingState) (u : S) (h' : ReadingState) (all : List Placed) (index name : ℕ) : Type 0 where
@@ -172,7 +166,7 @@ pub record Calls {S : Type 0} (g : Ghosts S) (t : S) (h : ReadingState) (u : S) 
   pub front_is : (rest pending : List Placed) → ArePending rest holding → stream_front holding.machine (rest ++ byte ∷ pending) ≡ shown_front h'.machine byte.place (body_of h'.machine.names name) pending
   pub rested : h'.open_run ≡ None
   pub still : (rest : List Placed) → ArePending rest holding → ArePending [] h'
-  pub named : name < 0x80
+  pub named : IsGraphic name
 
 -- The bytes before this index lead to a state in which the byte there is refused or breaks.
 pub record Stops {S : Type 0} (g : Ghosts S) (t : S) (h : ReadingState) (all : List Placed) (index : ℕ) (u : S) (r : Refusal) : Type 0 where
@@ -185,9 +179,9 @@ pub record Stops {S : Type 0} (g : Ghosts S) (t : S) (h : ReadingState) (all : L
 
 -- The machine consumed `count` bytes, and their last code makes this request to the input.
 abbrev pub TakesBy : {S : Type 0} → Ghosts S → S → ReadingState → S → ReadingState → List Placed → ℕ → Option Refusal → Request → Type 0
-TakesBy g t h u h' all count r requests.Stop = (why : Refusal) × (r ≡ Some why) × Stops g t h all count u why
-TakesBy g t h u h' all count r (requests.Call name) = (index : ℕ) × (count ≡ index + 1) × Calls g t h u h' all index name
-TakesBy g t h u h' all count r (requests.Define name show) = IsGraphic name × LeadsOn g t h u (state_after_request h' (requests.Define name show)) (take count all) (bytes_of (drop count all))
+TakesBy g t h u h' all count r Request.Stop = (why : Refusal) × (r ≡ Some why) × Stops g t h all count u why
+TakesBy g t h u h' all count r (Request.Call name) = (index : ℕ) × (count ≡ index + 1) × Calls g t h u h' all index name
+TakesBy g t h u h' all count r (Request.Define name show) = IsGraphic name × LeadsOn g t h u (state_after_request h' (Request.Define name show)) (take count all) (bytes_of (drop count all))
 TakesBy g t h u h' all count r request = LeadsOn g t h u (state_after_request h' request) (take count all) (bytes_of (drop count all))
 
 -- A machine isn't refused, and its state of failure agrees with its sink.
@@ -236,12 +230,12 @@ pub record Latches {S : Type 0} {g : Ghosts S} (old new : Machine S g) : Type 0 
   pub spares : IsSpared old → why.fault ≢ Memory
 
 abbrev pub Leaves : {S : Type 0} {g : Ghosts S} → Machine S g → Machine S g → Request → Type 0
-Leaves old new requests.Stop = Latches old new
+Leaves old new Request.Stop = Latches old new
 Leaves old new _ = Works old new
 
 -- At least one byte was consumed; or the machine is refused, or the open run has ended.
 abbrev pub Progresses : {S : Type 0} {g : Ghosts S} → Machine S g → Machine S g → ℕ → Request → Type 0
-Progresses old new count request = (0 < count) ⊎ (request ≡ requests.Stop) ⊎ ((new.open_run ≡ None) × (old.open_run ≢ None))
+Progresses old new count request = (0 < count) ⊎ (request ≡ Request.Stop) ⊎ ((new.open_run ≡ None) × (old.open_run ≢ None))
 
 -- The machine consumed `count` bytes of a slice that has these, after which others come: none of an operand if the run
 -- has ended.
@@ -251,9 +245,16 @@ pub record Takes {S : Type 0} {g : Ghosts S} (old new : Machine S g) (bytes : Li
   pub by : (h : ReadingState) (bytes_after : List Placed) → h.open_body ≡ None → (ended ≡ true → IsOver (bytes_of bytes_after)) →
       TakesBy g old.sink (with_machine h old) new.sink (with_machine h new) (bytes ++ bytes_after) count new.refusal request
 
+-- The same, where these bodies are bound to names. Calls of names without a body may be among the bytes.
+pub record TakesUnder {S : Type 0} {g : Ghosts S} (names : List (List ℕ)) (old new : Machine S g) (bytes : List Placed) (ended : Bool) (count : ℕ) (request : Request) : Type 0 where
+  pub within : count ≤ length bytes
+  pub leaves : Leaves old new request
+  pub by : (h : ReadingState) (bytes_after : List Placed) → h.open_body ≡ None → h.machine.names ≡ names → (ended ≡ true → IsOver (bytes_of bytes_after)) →
+      TakesBy g old.sink (with_machine h old) new.sink (with_machine h new) (bytes ++ bytes_after) count new.refusal request
+
 -- Only after the last of `many` bytes may a run be open, if the machine requests nothing.
 abbrev pub EndsClosed : {S : Type 0} {g : Ghosts S} → Machine S g → ℕ → ℕ → Request → Type 0
-EndsClosed new many count request = request ≡ requests.Nothing → count < many → new.open_run ≡ None
+EndsClosed new many count request = request ≡ Request.Nothing → count < many → new.open_run ≡ None
 
 -- The machine consumed bytes of a slice, from this index up to `count`.
 abbrev pub TakesFrom : {S : Type 0} {g : Ghosts S} → Machine S g → Machine S g → ℕ → ℕ → List ℕ → ℕ → Bool → ℕ → Request → Type 0
@@ -267,7 +268,7 @@ pub record IsOpcodeByte (half : List ℕ) (sets : CodeSets) (byte : ℕ) (op : O
   pub rested : half ≡ []
   pub drawn : IsDrawn op
   pub alone : (set : CharSet) → AllCharacters sets set → ⊥
-  pub names : codes.front sets (byte ∷ []) ≡ codes.complete (code.Op op) 1 sets
+  pub names : codes.front sets (byte ∷ []) ≡ codes.complete (Code.Op op) 1 sets
 
 -- no code is half read, and each of the bytes from 20 to 7F alone is a character of this set
 pub record AreCharacters (lexer : LexerState) (set : CharSet) : Type 0 where
@@ -276,12 +277,13 @@ pub record AreCharacters (lexer : LexerState) (set : CharSet) : Type 0 where
 
 -- the kind of the first code, if this byte comes next
 abbrev pub IsFrontCode : LexerState → ℕ → FrontCode → Type 0
-IsFrontCode lexer byte (fronts.Opcode op) = IsOpcodeByte lexer.half lexer.sets byte op
-IsFrontCode lexer byte (fronts.Characters set) = AreCharacters lexer set
-IsFrontCode lexer byte fronts.Shift = IsShift lexer byte
-IsFrontCode lexer byte (fronts.Effector step) = (lexer.half ≡ []) × (codes.front lexer.sets (byte ∷ []) ≡ codes.complete (code.Step step) 1 lexer.sets)
-IsFrontCode lexer byte fronts.Call = (lexer.half ≡ []) × ((rest : List ℕ) → codes.front lexer.sets (byte ∷ rest) ≡ codes.complete (code.Call byte) 1 lexer.sets)
-IsFrontCode lexer byte fronts.Other = ⊤
+IsFrontCode lexer byte (FrontCode.Opcode op) = IsOpcodeByte lexer.half lexer.sets byte op
+IsFrontCode lexer byte (FrontCode.Characters set) = AreCharacters lexer set
+IsFrontCode lexer byte FrontCode.Shift = IsShift lexer byte
+IsFrontCode lexer byte (FrontCode.Effector step) = (lexer.half ≡ []) × (codes.front lexer.sets (byte ∷ []) ≡ codes.complete (Code.Step step) 1 lexer.sets)
+IsFrontCode lexer byte FrontCode.Bell = (lexer.half ≡ []) × (codes.front lexer.sets (byte ∷ []) ≡ codes.complete Code.Bell 1 lexer.sets)
+IsFrontCode lexer byte FrontCode.Call = (lexer.half ≡ []) × ((rest : List ℕ) → codes.front lexer.sets (byte ∷ rest) ≡ codes.complete (Code.Call byte) 1 lexer.sets)
+IsFrontCode lexer byte FrontCode.Other = ⊤
 
 -- Nothing was done.
 pub record DoesNothing {S : Type 0} {g : Ghosts S} (old new : Machine S g) : Type 0 where
@@ -293,20 +295,22 @@ pub record DoesNothing {S : Type 0} {g : Ghosts S} (old new : Machine S g) : Typ
 
 -- The number of bytes of the code; or its opcode, whose run these bytes don't end; or nothing was done.
 abbrev pub CodeWithin : {S : Type 0} {g : Ghosts S} → Machine S g → Machine S g → List ℕ → CodeOutcome → Type 0
-CodeWithin old new bytes (outcomes.Acted count clears) = (0 < count) × (count ≤ length bytes)
-CodeWithin old new bytes (outcomes.Calls count name) = (0 < count) × (count ≤ length bytes)
-CodeWithin old new bytes (outcomes.Defines count name show) = (0 < count) × (count ≤ length bytes)
-CodeWithin old new bytes (outcomes.Stopped count fault index) = (count ≤ length bytes) × (index < length bytes)
-CodeWithin old new bytes (outcomes.Opens op) = (new ≡ old) × (0 < length bytes) × IsOpcodeByte old.lexer.half old.lexer.sets (get_or bytes 0 0) op
-CodeWithin old new bytes outcomes.Other = DoesNothing old new
+CodeWithin old new bytes (CodeOutcome.Acted count) = (0 < count) × (count ≤ length bytes)
+CodeWithin old new bytes (CodeOutcome.Clears count) = (0 < count) × (count ≤ length bytes)
+CodeWithin old new bytes (CodeOutcome.Calls count name) = (0 < count) × (count ≤ length bytes) × IsGraphic name
+CodeWithin old new bytes (CodeOutcome.Defines count name show) = (0 < count) × (count ≤ length bytes)
+CodeWithin old new bytes (CodeOutcome.Stopped count fault index) = (count ≤ length bytes) × (index < length bytes)
+CodeWithin old new bytes (CodeOutcome.Opens op) = (new ≡ old) × (0 < length bytes) × IsOpcodeByte old.lexer.half old.lexer.sets (get_or bytes 0 0) op
+CodeWithin old new bytes CodeOutcome.Other = DoesNothing old new
 
 -- The machine consumed the code, or kept its refusal, with the place of the byte with this index.
 abbrev pub CodeTakes : {S : Type 0} {g : Ghosts S} → Machine S g → Machine S g → List Placed → Bool → CodeOutcome → Type 0
-CodeTakes old new xs ended (outcomes.Acted count clears) = Takes old new xs ended count (clear_request_if clears)
-CodeTakes old new xs ended (outcomes.Calls count name) = Takes old new xs ended count (requests.Call name)
-CodeTakes old new xs ended (outcomes.Defines count name show) = Takes old new xs ended count (requests.Define name show)
-CodeTakes {S} {g} old new xs ended (outcomes.Stopped count fault index) =
-    (kept : Machine S g) → Refuses new kept (refusal fault (place_at xs index)) → Takes old kept xs ended count requests.Stop
+CodeTakes old new xs ended (CodeOutcome.Acted count) = Takes old new xs ended count Request.Nothing
+CodeTakes old new xs ended (CodeOutcome.Clears count) = Takes old new xs ended count Request.Clear
+CodeTakes old new xs ended (CodeOutcome.Calls count name) = Takes old new xs ended count (Request.Call name)
+CodeTakes old new xs ended (CodeOutcome.Defines count name show) = Takes old new xs ended count (Request.Define name show)
+CodeTakes {S} {g} old new xs ended (CodeOutcome.Stopped count fault index) =
+    (kept : Machine S g) → Refuses new kept (refusal fault (place_at xs index)) → Takes old kept xs ended count Request.Stop
 CodeTakes old new xs ended _ = ⊤
 
 -- The machine consumed the code at the front of these bytes, after which others come: none of an operand if the run has

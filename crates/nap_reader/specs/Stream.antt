@@ -1,15 +1,10 @@
-use Rattle.std.specs.Prelude.{ℕ, zero, suc, ◌+◌, ◌-◌, ◌&&◌, nat_lt, nat_le, Bool, true, false, if◌then◌else◌, List, [], ◌∷◌, ◌++◌, length, map, take, drop, Option, Some, None, Result, Ok, Err}
-use Rattle.std.specs.List.{prefix_len}
+use Rattle.std.specs.Prelude.{Bool, Err, List, None, Ok, Option, Result, Some, [], drop, false, if◌then◌else◌, length, map, nat_le, nat_lt, suc, take, true, zero, ℕ, ◌&&◌, ◌++◌, ◌+◌, ◌-◌, ◌∷◌}
+use Rattle.nap_reader.specs.Names.{Code, prefix_len, start_sets, start_work}
 use Rattle.nap_reader.specs.Below.{CodeSets, Opcode, Entry, OpenDefinition, Work, DrawFault, code_rule, run_limit, RuleResult, rule}
-use Rattle.nap_codes.specs.declared.code.Code.TheVariants as code
-use Rattle.nap_codes.specs.CodeSets.{start_sets}
 use Rattle.nap_codes.specs.Front as codes
-use Rattle.nap_draw.specs.Rule.{start_work}
 use Rattle.nap_reader.specs.declared.fault.Fault.{Fault}
-use Rattle.nap_reader.specs.declared.fault.Fault.TheVariants as faults
 use Rattle.nap_reader.specs.declared.fault.Refusal.{Refusal}
-use Rattle.nap_reader.specs.declared.kind.Kind.{Kind}
-use Rattle.nap_reader.specs.declared.kind.Kind.TheVariants as kinds
+use Rattle.nap_reader.specs.declared.machine.codes.Kind.{Kind}
 use Rattle.nap_reader.specs.Faults.{code_fault, draw_fault}
 use Rattle.nap_reader.specs.Kinds.{kind_of}
 use Rattle.nap_reader.specs.Bodies as bodies
@@ -95,7 +90,7 @@ closed_front m op place run (x ∷ xs) = drawn_front m place (x ∷ xs) (rule m.
 -- the front of an opcode on its run, with the bytes after the run
 abbrev pub run_front : Machine → Opcode → ℕ → List Placed → List Placed → StreamFront
 run_front m op place run rest =
-    if nat_lt run_limit (length run) then course.refuse (refusal faults.LongRun place)
+    if nat_lt run_limit (length run) then course.refuse (refusal Fault.LongRun place)
     else closed_front m op place run rest
 
 -- the front of an opcode, which takes the longest run of operand bytes after it
@@ -109,18 +104,18 @@ after_charge m n = record m { left = m.left - n }
 -- the front if the bytes of a body come next, each at this place, provided they can be charged
 abbrev pub shown_front : Machine → ℕ → List ℕ → List Placed → StreamFront
 shown_front m place bytes rest =
-    if nat_lt m.left (length bytes) then course.refuse (refusal faults.Budget place)
+    if nat_lt m.left (length bytes) then course.refuse (refusal Fault.Budget place)
     else course.act [] (after_charge m (length bytes)) (all_at place bytes ++ rest)
 
 -- the front if a code of this kind ends at this place, with the bytes after the code
 abbrev pub code_front : Machine → Kind → ℕ → List Placed → StreamFront
-code_front m (kinds.Opens op) place rest = opened_front m op place rest
-code_front m kinds.Strays place rest = course.refuse (refusal faults.Stray place)
-code_front m kinds.AddsNothing place rest = course.act [] m rest
-code_front m (kinds.Acts code) place rest = drawn_front m place rest (code_rule m.work code)
-code_front m (kinds.Calls name) place rest = shown_front m place (body_of m.names name) rest
-code_front m (kinds.Binds name show) place rest =
-    drawn_front (record m { mode = in_body name show }) place rest (code_rule m.work (code.DefMacro name show))
+code_front m (Kind.Opens op) place rest = opened_front m op place rest
+code_front m Kind.Strays place rest = course.refuse (refusal Fault.Stray place)
+code_front m Kind.AddsNothing place rest = course.act [] m rest
+code_front m (Kind.Acts code) place rest = drawn_front m place rest (code_rule m.work code)
+code_front m (Kind.Calls name) place rest = shown_front m place (body_of m.names name) rest
+code_front m (Kind.Binds name show) place rest =
+    drawn_front (record m { mode = in_body name show }) place rest (code_rule m.work (Code.DefMacro name show))
 
 -- the place of the byte at this index
 abbrev pub place_at : List Placed → ℕ → ℕ
@@ -208,12 +203,12 @@ with_run o = with_run_by o o.unfinished
 -- the outcome after a definition that is open at the end is refused there
 abbrev pub with_definition : Outcome → ℕ → Option OpenDefinition → Outcome
 with_definition o n None = o
-with_definition o n (Some opened) = record o { refusal = Some (refusal faults.Unended n) }
+with_definition o n (Some opened) = record o { refusal = Some (refusal Fault.Unended n) }
 
 -- the outcome after a code or a body that is unfinished at the end is refused there
 abbrev pub with_code : Outcome → ℕ → Option Unfinished → Outcome
-with_code o n (Some (half_code bytes)) = record o { refusal = Some (refusal faults.Cut n) }
-with_code o n (Some open_body) = record o { refusal = Some (refusal faults.Unended n) }
+with_code o n (Some (half_code bytes)) = record o { refusal = Some (refusal Fault.Cut n) }
+with_code o n (Some open_body) = record o { refusal = Some (refusal Fault.Unended n) }
 with_code o n _ = with_definition o n o.machine.work.state.definition
 
 abbrev pub with_end : Outcome → ℕ → Option Refusal → Outcome

@@ -1,12 +1,10 @@
-use Rattle.std.specs.Prelude.{ℕ, ◌≡◌, ◌≢◌, ◌⊎◌, true, List, [], Some, None, Result, Ok, Err}
-use Rattle.nap_draw.specs.Draws.{Cause, stream, memory, device}
-use Rattle.nap_list.specs.declared.sink.Sink.{Ghosts}
+use Rattle.std.specs.Prelude.{Err, List, None, Ok, Result, Some, [], true, ℕ, ◌≡◌, ◌≢◌, ◌⊎◌}
+use Rattle.nap_reader.specs.Names.{Cause, Ghosts, device, memory, stream}
 use Rattle.nap_reader.specs.declared.fault.Refusal.{Refusal}
 use Rattle.nap_reader.specs.Breaking.{cause_of, BreaksWithin, NeverWants, TookPrefix}
 use Rattle.nap_reader.specs.Collecting.{LacksMemoryFor, RefusedBy}
 use Rattle.nap_reader.specs.Stream.{means}
 use Rattle.nap_reader.specs.declared.twice.TwiceFault.{TwiceFault}
-use Rattle.nap_reader.specs.declared.twice.TwiceFault.TheVariants as twice_fault
 
 -- A page is read into a sink and, if it is accepted, again into another.
 
@@ -36,9 +34,9 @@ ReadsPage g s budget p t (Err r) = EndsEarly g s budget p t r (cause_of r.fault)
 -- is accepted, and the second reading broke at its sink; or it is accepted, and there was no memory to begin the second reading
 abbrev pub ReadsTwice : {S T : Type 0} → Ghosts S → Ghosts T → S → T → ℕ → List ℕ → T → Result S TwiceFault → Type 0
 ReadsTwice g h s u budget p v (Ok t) = ((means budget p).refusal ≡ None) × g.took s (means budget p).entries t × h.took u (means budget p).entries v
-ReadsTwice g h s u budget p v (Err (twice_fault.Refused r)) =
+ReadsTwice g h s u budget p v (Err (TwiceFault.Refused r)) =
     (RefusedBy g s budget p r (cause_of r.fault) × (v ≡ u)) ⊎ (((means budget p).refusal ≡ None) × BreaksAtSink h u budget p v r)
-ReadsTwice g h s u budget p v (Err twice_fault.Memory) = ((means budget p).refusal ≡ None) × (v ≡ u)
+ReadsTwice g h s u budget p v (Err TwiceFault.Memory) = ((means budget p).refusal ≡ None) × (v ≡ u)
 
 -- a page was read into a sink that was s, and into one that was u
 pub record IsReadTwice {S T : Type 0} (g : Ghosts S) (h : Ghosts T) (s : S) (u : T) (budget : ℕ) (p : List ℕ) (v : T) (found : Result S TwiceFault) : Type 0 where

@@ -1,12 +1,10 @@
 //! Reading of a page from an input, without keeping its bytes.
 ghost use Rattle.std.specs.Prelude.{◌≡◌, ◌+◌, ◌*◌, ◌^◌, ◌<◌, ◌≤◌, ℕ, List, [], None, false, length, ◌-◌};
 ghost use Rattle.std.specs.Io.KnownBytes.{Consumes};
-ghost use Rattle.nap_list.specs.Limits.{reads_limit};
+ghost use Rattle.nap_reader.specs.Names.{reading, reads_limit, start};
 ghost use Rattle.nap_reader.specs.declared.feeding.FeedFault.TheVariants.{Refused};
 ghost use Rattle.nap_reader.specs.Feeding.{FailsBy, Feeds};
 ghost use Rattle.nap_reader.specs.ReaderAnswers.{HasRead, budget_of, fed_of, refusal_of, sink_of};
-ghost use Rattle.nap_list.specs.State.{start};
-ghost use Rattle.nap_list.specs.Reading.{reading};
 ghost use Rattle.nap_reader.specs.Collecting.{IsCollected, IsRead, IsDrained};
 
 use crate::budget::Budget;

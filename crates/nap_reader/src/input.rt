@@ -1,22 +1,19 @@
 //! The input of a reader: the bytes of called bodies, and then those of the piece.
-ghost use Rattle.std.specs.Prelude.{◌≡◌, ◌+◌, ◌++◌, ◌≤◌, List, [], ◌∷◌, None, drop, length, IfOk, IsTrue, MatchOption};
-ghost use Rattle.nap_reader.specs.Bodies.{no_names, store_limit};
+ghost use Rattle.std.specs.Prelude.{◌≡◌, ◌+◌, ◌++◌, ◌≤◌, List, [], ◌∷◌, None, drop, length, vec_capacity, IfOk, IsTrue, MatchOption, ◌-◌, ◌<◌, MatchResult, Some, OnErr, OnOk, take, ◌*◌, ◌^◌};
+ghost use Rattle.nap_reader.specs.Bodies.{no_names, store_limit, body_of};
 ghost use Rattle.nap_reader.specs.Budgets.{most_budget};
 ghost use Rattle.nap_reader.specs.Carried.{HasName, HasName-prop};
 ghost use Rattle.nap_reader.specs.Framed.{FramesIn, unread};
 ghost use Rattle.nap_reader.specs.Stored.{no_promise};
+ghost use Rattle.nap_codes.specs.Laws.{IsGraphic};
 
 use crate::body::OpenBody;
 use crate::budget::Budget;
+use crate::fault::Fault;
 use crate::frames::Frames;
 use crate::prefix::is_operand;
-use crate::slice::Slice;
 use crate::store::{Promise, STORE_LIMIT, Store};
 use std::alloc::{AllocError, Global};
-
-mod calls;
-mod defining;
-mod keeping;
 
 /// The macro bodies, those that are being read, and the counts of bytes read.
 #[derive(Drop)]
@@ -42,14 +39,15 @@ pub(crate) struct Input {
     ghost counted: { fed ≤ turns },
     ghost few: { store.stored + length store.body ≤ store_limit },
     ghost paired: { length store.bytes ≤ store.stored + length store.body + charged },
-    ghost deep: { store.promise.charged ≤ frames.stack.capacity },
+    ghost deep: { store.promise.charged ≤ vec_capacity frames.stack },
 }
 
 impl Input {
-    ghost use Rattle.nap_reader.specs.NextBytes.{CanAdvance, IsNextText, Moves, Reads, StoresBody, next_bytes, promise_after};
+    ghost use Rattle.nap_reader.specs.NextBytes.{CanAdvance, IsNextText, Moves, Reads, StoresBody, next_bytes, promise_after, CannotShow, CanPass};
     ghost use Rattle.nap_reader.specs.declared.frames.Frame.{Frame};
     ghost use Rattle.nap_reader.specs.Steps.{IsOver};
-    ghost use Rattle.nap_reader.specs.Stream.{bytes_of};
+    ghost use Rattle.nap_reader.specs.Stream.{bytes_of, all_at};
+    ghost use Rattle.nap_reader.specs.Stored.{store_shown, Exceeds, store_bound, store_grown};
 
     /// Returns the input before any byte.
     pub(crate) fn new(alloc: Global, budget: Budget) -> Input
@@ -167,5 +165,156 @@ impl Input {
         ensures { StoresBody self.old self.new (record self.old.store { names = no_names }) self.old.body }
     {
         self.store.clear();
+    }
+
+    /// Returns how many bytes may still be charged.
+    fn budget_left(&self) -> u64
+        ensures left { result ≡ self.now.budget - self.now.charged }
+        ensures most { result + self.now.charged ≤ most_budget }
+    {
+        u64::from(self.budget.get()) - self.charged
+    }
+
+    /// Charges the body of a name, which comes next in the stream with this place (PROFILE.md, Macros).
+    pub(crate) fn call(&mut self, name: u8, place: u64) -> Result<(), Fault>
+        requires { IsGraphic name }
+        ensures { MatchResult result (λ _. Moves self.old self.new 0 (all_at place (body_of self.old.store.names name)) self.old.store self.old.body) (λ fault. CannotShow self.old self.new (body_of self.old.store.names name) fault) }
+    {
+        let span = self.store.span(name);
+        let count = (span.end - span.start) as u64;
+        if count == 0 {
+            return Ok(());
+        }
+        if count > self.budget_left() {
+            return Err(Fault::Budget);
+        }
+        let Ok(()) = self.frames.reserve(1) else {
+            return Err(Fault::Memory);
+        };
+        self.frames.push_reserved(span, place);
+        self.charged += count;
+        Ok(())
+    }
+
+    /// Ends a body that is presented: binds it to the name and charges it. Its bytes and the two that end it come next
+    /// in the stream, with this place (PROFILE.md, Macros).
+    pub(crate) fn show(&mut self, name: u8, ender: u8, place: u64) -> Result<(), Fault>
+        requires { IsGraphic name }
+        ensures { MatchResult result (λ _. Moves self.old self.new 0 (all_at place (self.old.store.body ++ 0x1B ∷ ender ∷ [])) (store_shown self.old.store name ender) None) (λ fault. CannotShow self.old self.new (self.old.store.body ++ 0x1B ∷ ender ∷ []) fault) }
+    {
+        let count = self.store.open_len() as u64 + 2;
+        if count > self.budget_left() {
+            return Err(Fault::Budget);
+        }
+        let Ok(()) = self.frames.reserve(1) else {
+            return Err(Fault::Memory);
+        };
+        let Ok(span) = self.store.show(name, ender) else {
+            return Err(Fault::Memory);
+        };
+        self.frames.push_reserved(span, place);
+        self.charged += count;
+        self.body = None;
+        Ok(())
+    }
+
+    /// Opens the body of a macro, and keeps whether it is presented at its end.
+    pub(crate) fn open_body(&mut self, name: u8, show: bool)
+        requires { IsGraphic name }
+        ensures { StoresBody self.old self.new self.old.store (Some (record { name = name; show = show; escape = None })) }
+    {
+        self.body = Some(OpenBody {
+            name,
+            show,
+            escape: None,
+        });
+    }
+
+    /// Keeps an ESC of the body as undecided, at this place.
+    #[inline(always)]
+    pub(crate) fn hold_escape(&mut self, body: OpenBody, place: u64)
+        requires { IsGraphic body.name }
+        ensures { StoresBody self.old self.new self.old.store (Some (record body { escape = Some place })) }
+    {
+        self.body = Some(OpenBody {
+            name: body.name,
+            show: body.show,
+            escape: Some(place),
+        });
+    }
+
+    /// Adds the undecided ESC to the body.
+    pub(crate) fn keep_escape(&mut self, body: OpenBody) -> Result<(), AllocError>
+        requires named { IsGraphic body.name }
+        requires few { self.old.store.stored + length self.old.store.body < store_limit }
+        ensures ok { OnOk result (StoresBody self.old self.new (store_grown self.old.store (0x1B ∷ [])) (Some (record body { escape = None }))) }
+        ensures err { OnErr result (self.new ≡ self.old) }
+        ensures full { OnErr result (Exceeds self.old.store.promise (self.old.store.stored + length self.old.store.body + 1) self.old.charged) }
+    {
+        self.store.push(0x1B)?;
+        self.open_body(body.name, body.show);
+        Ok(())
+    }
+
+    /// Ends a body, and binds it to the name.
+    pub(crate) fn bind(&mut self, name: u8)
+        requires { IsGraphic name }
+        ensures { StoresBody self.old self.new (store_bound self.old.store name) None }
+    {
+        self.store.bind(name);
+        self.body = None;
+    }
+
+    /// Adds the next `count` bytes to the open body, and advances past them.
+    #[inline(always)]
+    pub(crate) fn keep(&mut self, count: usize, piece: &[u8]) -> Result<(), AllocError>
+        requires next { CanPass self.old piece.now count }
+        requires few { self.old.store.stored + length self.old.store.body + count ≤ store_limit }
+        ensures ok { OnOk result (Moves self.old self.new count [] (store_grown self.old.store (bytes_of (take count (next_bytes self.old piece.now)))) self.old.body) }
+        ensures err { OnErr result (self.new ≡ self.old) }
+        ensures full { OnErr result (Exceeds self.old.store.promise (self.old.store.stored + length self.old.store.body + count) self.old.charged) }
+    {
+        self.append(count, piece)?;
+        self.advance(count);
+        Ok(())
+    }
+
+    /// Adds the next `count` bytes to the open body.
+    #[inline(always)]
+    fn append(&mut self, count: usize, piece: &[u8]) -> Result<(), AllocError>
+        requires next { CanPass self.old piece.now count }
+        requires few { self.old.store.stored + length self.old.store.body + count ≤ store_limit }
+        ensures ok { OnOk result (StoresBody self.old self.new (store_grown self.old.store (bytes_of (take count (next_bytes self.old piece.now)))) self.old.body) }
+        ensures err { OnErr result (self.new ≡ self.old) }
+        ensures full { OnErr result (Exceeds self.old.store.promise (self.old.store.stored + length self.old.store.body + count) self.old.charged) }
+    {
+        match self.frames.next() {
+            Some(next) => self.store.extend_within(next, count),
+            None => self.store.extend(&piece[self.at..self.at + count]),
+        }
+    }
+}
+
+/// The next contiguous bytes: the rest of the innermost body, else of the piece.
+#[derive(Clone, Copy, Drop)]
+pub(crate) struct Slice<'a> {
+    /// The bytes, at least one.
+    pub(crate) bytes: &'a [u8],
+    /// The place of the first byte.
+    pub(crate) place: u64,
+    /// The difference of the places of two neighbours: 1 in the piece, 0 in a body.
+    pub(crate) step: u64,
+    ghost near: { step ≤ 1 },
+    ghost fits: { place + step * length bytes.now < 2 ^ 64 },
+}
+
+impl<'a> Slice<'a> {
+    /// Returns the place of the byte at an index.
+    #[inline(always)]
+    pub(crate) fn place_of(&self, index: usize) -> u64
+        requires { index ≤ length self.now.bytes.now }
+        ensures { result ≡ self.now.place + self.now.step * index }
+    {
+        self.place + self.step * index as u64
     }
 }

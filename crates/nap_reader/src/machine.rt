@@ -1,25 +1,22 @@
 //! The state that codes work on.
-ghost use Rattle.std.specs.Prelude.{◌≡◌, ◌≤◌, Bool, [], None, Some, length, vec_len, IfErr, IfOk, MatchResult, OnOk};
-ghost use Rattle.nap_codes.specs.CodeSets.{start_sets};
-ghost use Rattle.nap_draw.specs.Limits.{run_limit};
-ghost use Rattle.nap_draw.specs.Rule.{start_work};
+ghost use Rattle.std.specs.Prelude.{◌≡◌, ◌≤◌, Bool, [], None, Some, length, vec_len, IfErr, IfOk, MatchResult, OnOk, ℕ, List, Option, ◌≢◌, ◌⊎◌, Err, ◌+◌, ◌<◌, ◌^◌};
+ghost use Rattle.nap_reader.specs.Names.{run_limit, start_sets, start_work};
 ghost use Rattle.nap_reader.specs.Carried.{HasRule, HasRule-prop, NoCharacters, NoCharacters-prop};
 ghost use Rattle.nap_reader.specs.Stream.{refusal};
+ghost use Rattle.nap_reader.specs.Framed.{placed_by_step};
+
+mod bodies;
+mod codes;
+mod runs;
 
 use crate::fault::{Fault, Refusal};
+use crate::input::{Input, Slice};
+use crate::store::Store;
 use nap_codes::{Lexer, Opcode};
 use nap_draw::{RUN_LIMIT, Work};
 use nap_list::Sink;
 use nap_values::Point;
 use std::alloc::Global;
-
-mod bodies;
-mod codes;
-mod other;
-mod reading;
-mod runs;
-
-pub(crate) use reading::Refused;
 
 /// An opcode whose run isn't ended.
 #[derive(Clone, Copy, Drop)]
@@ -68,7 +65,14 @@ pub(crate) struct Machine<S: Sink> {
 }
 
 impl<S: Sink> Machine<S> {
-    ghost use Rattle.nap_reader.specs.Steps.{EndsRun, FailsRun, HasRunMemory, IsLive, Refuses, Works};
+    ghost use Rattle.nap_reader.specs.Steps.{EndsRun, FailsRun, HasRunMemory, IsLive, Refuses, Works, StopsByte, Progresses, TakesUnder};
+    ghost use Rattle.nap_reader.specs.declared.body.OpenBody.{OpenBody};
+    ghost use Rattle.nap_reader.specs.declared.input.Input.{Input};
+    ghost use Rattle.nap_reader.specs.NextBytes.{CanAdvance, IsNextByte, Moves, Reads, next_bytes};
+    ghost use Rattle.nap_reader.specs.Framed.{placed_at};
+    ghost use Rattle.nap_reader.specs.ReadingStates.{reading_state_by};
+    ghost use Rattle.nap_reader.specs.Pieces.{Goes, LacksFrom, StopsFrom, TakesSlice, ReadsFurther};
+    ghost use Rattle.nap_reader.specs.Stored.{StoreState};
 
     /// Returns the state before any code.
     pub(crate) fn new(alloc: Global, sink: S) -> Machine<S>
@@ -176,6 +180,119 @@ impl<S: Sink> Machine<S> {
             request: Request::Stop,
         }
     }
+
+    /// Consumes bytes of the body that is being defined, if one is, until it ends or no byte is left.
+    #[inline(always)]
+    #[tactic(auto, using(crate::proofs::FurtherLemmas::goes_nowhere))]
+    fn define(&mut self, input: &mut Input, piece: &[u8]) -> Result<(), Refused>
+        requires live { IsLive self.old }
+        requires reads { Reads input.old piece.now }
+        ensures live { OnOk result (IsLive self.new) }
+        ensures run { OnOk result (self.old.open_run ≡ None → self.new.open_run ≡ None) }
+        ensures ends { OnOk result ((input.new.body ≡ None) ⊎ (next_bytes input.new piece.now ≡ [])) }
+        ensures goes { MatchResult result (λ _. Goes piece.now 0 self.old input.old self.new input.new) (λ _. StopsFrom piece.now self.old input.old self.new input.new) }
+    {
+        if input.body.is_none() {
+            return Ok(());
+        }
+        self.take_body(input, piece)
+    }
+
+    /// Advances past the bytes that were consumed, the last of which has this place, and does what their last code
+    /// requests of the input.
+    #[inline(always)]
+    fn answer(
+        &mut self,
+        input: &mut Input,
+        taken: Taken,
+        place: u64,
+        piece: &[u8],
+    ) -> Result<(), Refused>
+        requires { (old : Machine S S.Sink) × TakesSlice old self.old input.old piece.now taken.count taken.request place }
+        ensures live { OnOk result (IsLive self.new) }
+        ensures run { OnOk result (self.old.open_run ≡ None → self.new.open_run ≡ None) }
+        ensures ends { OnOk result ((input.new.body ≡ None) ⊎ (next_bytes input.new piece.now ≡ [])) }
+        ensures on { OnOk result (taken.request ≢ Request.Stop) }
+        ensures goes { (old : Machine S S.Sink) → TakesSlice old self.old input.old piece.now taken.count taken.request place →
+            MatchResult result (λ _. Goes piece.now taken.count old input.old self.new input.new) (λ _. StopsFrom piece.now old input.old self.new input.new) }
+    {
+        input.advance(taken.count);
+        match taken.request {
+            Request::Nothing => Ok(()),
+            Request::Clear => {
+                input.clear();
+                Ok(())
+            }
+            Request::Call(name) => match input.call(name, place) {
+                Ok(()) => Ok(()),
+                Err(fault) => self.refuse(fault, place),
+            },
+            Request::Define(name, show) => {
+                input.open_body(name, show);
+                self.take_body(input, piece)
+            }
+            Request::Stop => {
+                input.advance(1);
+                Err(Refused)
+            }
+        }
+    }
+
+    /// Refuses the stream. Later calls answer the same refusal.
+    #[inline(never)]
+    fn refuse(&mut self, fault: Fault, place: u64) -> Result<(), Refused>
+        ensures latched { Refuses self.old self.new (refusal fault place) }
+        ensures answer { result ≡ Err (record {}) }
+    {
+        self.refusal = Some(Refusal { fault, place });
+        Err(Refused)
+    }
+
+    /// Refuses the stream, for good, at the byte that comes next.
+    #[inline(never)]
+    fn refuse_next(&mut self, input: &mut Input, fault: Fault, place: u64) -> Result<(), Refused>
+        requires { CanAdvance input.old 1 }
+        ensures answer { result ≡ Err (record {}) }
+        ensures stops { (count : ℕ) (start : Input) (piece : List ℕ) (byte at : ℕ) (store : StoreState) (opened : Option OpenBody) → Moves start input.old 0 [] store opened → IsNextByte start piece byte at → fault ≢ Fault.Sink → LacksFrom piece self.old start fault →
+            StopsByte S.Sink self.old.sink [] (reading_state_by self.old start) (placed_at byte at) self.old.sink (refusal fault place) →
+            MatchResult result (λ _. Goes piece count self.old start self.new input.new) (λ _. StopsFrom piece self.old start self.new input.new) }
+    {
+        input.advance(1);
+        self.refuse(fault, place)
+    }
+
+    /// Reads the next piece of a stream that isn't refused: slice by slice, of the bodies that it calls and of itself.
+    pub(crate) fn read(&mut self, input: &mut Input, piece: &[u8]) -> Result<(), Refused>
+        requires live { IsLive self.old }
+        requires rested { input.old.frames.stack.items ≡ [] }
+        requires few { input.old.fed + length piece.now < 2 ^ 63 }
+        ensures live { OnOk result (IsLive self.new) }
+        ensures rests { OnOk result (input.new.frames.stack.items ≡ []) }
+        ensures reads { MatchResult result (λ _. ReadsFurther piece.now self.old (record input.old { at = 0 }) self.new input.new × (next_bytes input.new piece.now ≡ [])) (λ _. StopsFrom piece.now self.old (record input.old { at = 0 }) self.new input.new) }
+    {
+        input.begin_piece();
+        self.define(input, piece)?;
+        while let Some((slice, ended)) = input.next_slice(piece) {
+            let taken = self.take(&slice, ended, &input.store);
+            let place = slice.place_of(taken.count.saturating_sub(1));
+            self.answer(input, taken, place, piece)?;
+        }
+        Ok(())
+    }
+
+    /// Consumes bytes of a slice: operands of the open run, or codes.
+    #[inline(always)]
+    fn take(&mut self, slice: &Slice, ended: bool, store: &Store) -> Taken
+        requires live { IsLive self.old }
+        requires some { 0 < length slice.now.bytes.now }
+        ensures takes { TakesUnder store.now.names self.old self.new (placed_by_step slice.now.place slice.now.step slice.now.bytes.now) ended result.count result.request }
+        ensures goes { Progresses self.old self.new result.count result.request }
+    {
+        match self.open_run {
+            Some(open_run) => self.join(open_run, slice, ended),
+            None => self.codes(slice, ended, store),
+        }
+    }
 }
 
 /// Returns that `count` bytes were consumed, and nothing is requested.
@@ -183,8 +300,17 @@ impl<S: Sink> Machine<S> {
 fn took(count: usize) -> Taken
     ensures { result ≡ record { count = count; request = Request.Nothing } }
 {
-    Taken {
-        count,
-        request: Request::Nothing,
-    }
+    took_with(count, Request::Nothing)
 }
+
+/// Returns that `count` bytes were consumed, with what their last code requests.
+#[inline(always)]
+fn took_with(count: usize, request: Request) -> Taken
+    ensures { result ≡ record { count = count; request = request } }
+{
+    Taken { count, request }
+}
+
+/// The stream is refused, and the refusal is kept.
+#[derive(Clone, Copy, Drop)]
+pub(crate) struct Refused;

@@ -1,21 +1,16 @@
 //! The reader of a stream in pieces.
 ghost use Rattle.std.specs.Prelude.{◌≡◌, ◌≢◌, ◌+◌, ◌^◌, ◌<◌, ◌≤◌, ℕ, List, [], ◌++◌, None, Some, Err, true, false, length, OnOk, IfOk, IfErr, IsSome, IsErrAnd, MatchResult};
 ghost use Rattle.std.specs.Option.{ForNone};
-ghost use Rattle.nap_list.specs.State.{start};
+ghost use Rattle.nap_reader.specs.Names.{StatesAgree, StatesAgree-prop, start};
 ghost use Rattle.std.proofs.Props.{props};
-ghost use Rattle.nap_list.specs.Agreement.{StatesAgree};
-ghost use Rattle.nap_list.specs.Propositions.{StatesAgree-prop};
 
 use crate::budget::Budget;
 use crate::fault::{Fault, Refusal};
 use crate::input::Input;
 use crate::machine::{Machine, Refused};
+use crate::prefix::{operand_prefix_len, text_bytes};
 use nap_list::Sink;
 use std::alloc::Global;
-
-mod ahead;
-
-pub use ahead::Ahead;
 
 /// Reads a stream in any pieces, and puts its entries into a sink as they are read (PROFILE.md, How a stream is read).
 /// After a refusal each further call answers the same refusal.
@@ -35,6 +30,7 @@ impl<S: Sink> Reader<S> {
     ghost use Rattle.nap_reader.specs.Pieces.{HasMemory, HasMemoryOf, Overcharges};
     ghost use Rattle.nap_reader.specs.Steps.{IsSpared};
     ghost use Rattle.nap_reader.specs.ReaderAnswers.{Answers, IsBounded, IsTaken, HasRead, StopsAt, budget_of, charged_of, fed_of, left_of, refusal_of, sink_of, turns_of};
+    ghost use Rattle.nap_reader.specs.Looking.{AddsAhead, CountsAhead, bytes_ahead};
 
     /// Returns a reader at the start of a stream, which puts the entries into this sink. Takes no memory.
     pub fn new(alloc: Global, budget: Budget, sink: S) -> Reader<S>
@@ -255,6 +251,35 @@ impl<S: Sink> Reader<S> {
     {
         self.input.charged
     }
+
+    /// Returns what the first bytes of this piece add, if it comes next. The reader is unchanged.
+    #[tactic(auto, using(crate::proofs::AheadLemmas::counted_within))]
+    pub fn ahead(&self, piece: &[u8]) -> Ahead
+        ensures some { 0 < length piece.now → 0 < bytes_ahead result }
+        ensures within { bytes_ahead result ≤ length piece.now }
+        ensures adds_entries { refusal_of self.now ≡ None → (s : S) (p : List ℕ) → HasRead self.now s p →
+            AddsAhead (budget_of self.now) p piece.now result }
+        ensures counts { CountsAhead self.now piece.now result }
+    {
+        let Some(byte) = piece.first() else {
+            return Ahead::First(0);
+        };
+        if let Some(_) = self.input.body {
+            return Ahead::First(1);
+        }
+        if *byte < 0x40 {
+            if let Some(_) = self.machine.lexer.opcode(*byte) {
+                return Ahead::First(1 + operand_prefix_len(&piece[1..]));
+            }
+        }
+        if let Some(_) = self.machine.lexer.char_set() {
+            let count = text_bytes(piece).len();
+            if count > 0 {
+                return Ahead::Each(count);
+            }
+        }
+        Ahead::First(1)
+    }
 }
 
 /// The sink of a reader that stopped, and why it stopped.
@@ -264,4 +289,13 @@ pub struct Stopped<S> {
     pub sink: S,
     /// The refusal.
     pub refusal: Refusal,
+}
+
+/// How many bytes of a prefix of a piece add their entries in one way.
+#[derive(Clone, Copy, PartialEq, Eq, Debug, Drop)]
+pub enum Ahead {
+    /// An opcode and operands, or another byte: the number of bytes, of which those after the first add no entries.
+    First(usize),
+    /// Characters and format effectors: the number of bytes, each of which adds one entry.
+    Each(usize),
 }

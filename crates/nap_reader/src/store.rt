@@ -1,13 +1,11 @@
 //! The store of macro bodies.
-ghost use Rattle.std.specs.Prelude.{◌≡◌, ◌+◌, ◌<◌, ◌≤◌, [], ◌∷◌, ◌++◌, length, OnOk, OnErr, IfOk};
+ghost use Rattle.std.specs.Prelude.{false, ◌≡◌, ◌↔◌, ◌+◌, ◌<◌, ◌≤◌, [], ◌∷◌, ◌++◌, length, OnOk, OnErr, IfOk};
 ghost use Rattle.nap_reader.specs.Bodies.{no_names, body_of, store_limit};
-ghost use Rattle.nap_reader.specs.Stored.{IsBefore, no_promise, promised, store_bound, store_grown, sublist_at, store_shown};
+ghost use Rattle.nap_reader.specs.Stored.{IsBefore, no_promise, promised, store_bound, store_grown, sublist_at, store_shown, sublist};
 ghost use Rattle.nap_codes.specs.Laws.{IsGraphic};
 
 use std::alloc::{AllocError, Global};
 use std::marker::Model;
-
-mod growing;
 
 /// The greatest number of bytes of macro bodies in one stream, those that were bound again or cleared included
 /// (PROFILE.md, Limits).
@@ -28,6 +26,8 @@ const EMPTY: Span = Span { start: 0, end: 0 };
 pub(crate) struct Store {
     bytes: Vec<u8>,
     spans: [Span; 96],
+    /// Whether a name may be bound.
+    bound: bool,
     from: usize,
     stored: usize,
     promise: Promise,
@@ -49,14 +49,15 @@ pub(crate) const NO_PROMISE: Promise = Promise {
 };
 
 impl Model for Store {
-    ghost use Rattle.std.specs.Prelude.{map, drop, vec_capacity};
+    ghost use Rattle.std.specs.Prelude.{◌≡◌, false, map, drop, vec_capacity};
+    ghost use Rattle.nap_reader.specs.Bodies.{no_names};
     ghost use Rattle.nap_reader.specs.Stored.{IsStore, StoreState, sublist_at};
 
     ghost Value = { StoreState };
 
     ghost view = { λ s. record { names = map (sublist_at s.bytes.items) s.spans; bytes = s.bytes.items; body = drop s.from s.bytes.items; stored = s.stored; promise = s.promise } };
 
-    ghost invariant = { λ s. IsStore s.bytes.items s.spans s.from s.stored s.promise (vec_capacity s.bytes) };
+    ghost invariant = { λ s. IsStore s.bytes.items s.spans s.from s.stored s.promise (vec_capacity s.bytes) × (s.bound ≡ false → map (sublist_at s.bytes.items) s.spans ≡ no_names) };
 }
 
 impl Store {
@@ -67,6 +68,7 @@ impl Store {
         Store {
             bytes: Vec::new(alloc),
             spans: [EMPTY; 96],
+            bound: false,
             from: 0,
             stored: 0,
             promise: NO_PROMISE,
@@ -79,6 +81,7 @@ impl Store {
     {
         self.bytes.clear();
         self.spans = [EMPTY; 96];
+        self.bound = false;
         self.from = 0;
         self.stored = 0;
     }
@@ -133,6 +136,7 @@ impl Store {
             start: self.from,
             end,
         };
+        self.bound = true;
         self.stored += end - self.from;
         self.from = end;
     }
@@ -153,6 +157,7 @@ impl Store {
         self.bytes.push_reserved(0x1B);
         self.bytes.push_reserved(ender);
         self.spans[usize::from(name - 0x20)] = Span { start, end };
+        self.bound = true;
         self.stored += end - start;
         self.from = self.bytes.len();
         Ok(Span {
@@ -165,16 +170,29 @@ impl Store {
     pub(crate) fn clear(&mut self)
         ensures { self.new ≡ record self.old { names = no_names } }
     {
-        self.spans = [EMPTY; 96];
+        if self.bound {
+            self.spans = [EMPTY; 96];
+            self.bound = false;
+        }
     }
 
     /// Returns where the body of a name is.
     pub(crate) fn span(&self, name: u8) -> Span
-        requires { name < 0x80 }
+        requires { IsGraphic name }
         ensures body { sublist_at self.now.bytes result ≡ body_of self.now.names name }
         ensures within { IsBefore (length self.now.bytes) result }
     {
-        self.spans[usize::from(name.saturating_sub(0x20))]
+        self.spans[usize::from(name - 0x20)]
+    }
+
+    /// Whether the name is bound to a body that has a byte.
+    #[inline(always)]
+    pub(crate) fn has_body(&self, name: u8) -> bool
+        requires { IsGraphic name }
+        ensures { result ≡ false ↔ (body_of self.now.names name ≡ []) }
+    {
+        let span = self.span(name);
+        span.start != span.end
     }
 
     /// Returns all bytes of the store.
@@ -182,5 +200,30 @@ impl Store {
         ensures { result.now ≡ self.now.bytes }
     {
         &self.bytes
+    }
+
+    /// Appends bytes to the open body, often one.
+    #[inline(always)]
+    pub(crate) fn extend(&mut self, bytes: &[u8]) -> Result<(), AllocError>
+        requires { self.old.stored + length self.old.body + length bytes.now ≤ store_limit }
+        ensures ok { OnOk result (self.new ≡ store_grown self.old bytes.now) }
+        ensures err { OnErr result (self.new ≡ self.old) }
+        ensures full { OnErr result (promised self.old.promise < length self.old.bytes + length bytes.now) }
+    {
+        if bytes.len() != 1 {
+            return self.bytes.extend_from_slice(bytes);
+        }
+        self.push(bytes[0])
+    }
+
+    /// Appends bytes that are in the store already to the open body.
+    pub(crate) fn extend_within(&mut self, from: usize, count: usize) -> Result<(), AllocError>
+        requires within { from + count ≤ length self.old.bytes }
+        requires few { self.old.stored + length self.old.body + count ≤ store_limit }
+        ensures ok { OnOk result (self.new ≡ store_grown self.old (sublist self.old.bytes from (from + count))) }
+        ensures err { OnErr result (self.new ≡ self.old) }
+        ensures full { OnErr result (promised self.old.promise < length self.old.bytes + count) }
+    {
+        self.bytes.extend_from_within(from..from + count)
     }
 }

@@ -14,7 +14,7 @@ unfoldable pub use Rattle.nap_values.specs.PackedCoordinates.{packed_coordinates
 pub use Rattle.nap_values.specs.Spellings.{colour_word, operand_bytes, words_of}
 unfoldable pub use Rattle.nap_values.specs.Spellings.{addr_bytes, grb_bytes, move_bytes, point_bytes, words_of_pairs, words_of_triples}
 pub use Rattle.nap_values.specs.TwosComplement.{bits_of, signed_of}
-pub use Rattle.std.proofs.Common.{All, Bool, List, None, Some, [], add-mul, add-one, ap, append-nil, append_assoc, ap₂, arith, bit_and, bit_or, cond, div-one, drop, drop-cons, false, get_or, length, length-append, length-set, map, mod-eq_of_lt, mul-le-mul_left, mul-lt-mul_of_pos_right, mul_assoc, mul_right_comm, nat_lt, negsuc, pos, pow-suc, pow_pos, refl, replicate, rules, set, slice_index, subst, suc, sym, take, true, zero, zero-add, zero-mul, ℕ, ℤ, ◌%◌, ◌&&◌, ◌*◌, ◌++◌, ◌+ℤ◌, ◌+◌, ◌-ℤ◌, ◌-◌, ◌/◌, ◌<ℤ◌, ◌<◌, ◌^◌, ◌∙◌, ◌∷◌, ◌≡◌, ◌≤ℤ◌, ◌≤◌}
+pub use Rattle.std.proofs.Common.{All, Bool, List, None, Some, [], add-mul, add-one, ap, append-nil, append_assoc, ap₂, arith, bit_and, bit_or, cond, div-one, drop, drop-cons, false, get_or, is_some, length, length-append, length-set, map, mod-eq_of_lt, mul-le-mul_left, mul-lt-mul_of_pos_right, mul_assoc, mul_right_comm, nat_eq, nat_lt, negsuc, pos, pow-suc, pow_pos, refl, replicate, rules, set, slice_index, subst, suc, sym, take, true, zero, zero-add, zero-mul, ℕ, ℤ, ◌%◌, ◌&&◌, ◌*◌, ◌++◌, ◌+ℤ◌, ◌+◌, ◌-ℤ◌, ◌-◌, ◌/◌, ◌<ℤ◌, ◌<◌, ◌^◌, ◌∙◌, ◌∷◌, ◌≡◌, ◌≤ℤ◌, ◌≤◌}
 pub use Rattle.std.proofs.Math.ListN.{drop_of_length-le}
 pub use Rattle.std.proofs.Math.Nat.{mod-lt, mul-div_cancel, mul-le-mul_right, mul-mod_left, mul-zero, one-le-pow, pow-le-pow_right, pow-succ', pow-zero}
 pub use Rattle.std.proofs.lemmas.Bool.Decides.{nat_tests}

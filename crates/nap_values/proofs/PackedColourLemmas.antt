@@ -1,8 +1,8 @@
-use Rattle.nap_values.proofs.Common.{All, All-map, All-weaker, HoldsWords, IsWord, List, [], ap, ap₂, arith, b_digit, bit_and, digits_of, div-one, g_digit, length, length-map, map, map-map, map_fixed, packed_colour, r_digit, refl, replicate, suc, sym, take_all, value_of, words_in, words_of_triples, zero, ℕ, ◌%◌, ◌*◌, ◌+◌, ◌-◌, ◌/◌, ◌<◌, ◌^◌, ◌∙◌, ◌∷◌, ◌≡◌, ◌≤◌}
+use Rattle.nap_values.proofs.Common.{All, All-map, All-weaker, HoldsWords, IsWord, List, [], ap, ap₂, arith, b_digit, b_in, bit_and, digits_of, div-one, g_digit, g_in, length, length-map, map, map-map, map_fixed, packed_colour, r_digit, r_in, refl, replicate, suc, sym, take_all, value_of, words_in, words_of_triples, zero, ℕ, ◌%◌, ◌*◌, ◌+◌, ◌-◌, ◌/◌, ◌<◌, ◌^◌, ◌∙◌, ◌∷◌, ◌≡◌, ◌≤◌}
 use Rattle.nap_values.proofs.DigitLemmas.{value_of-digits_of, digits_of-value_of, length-digits_of, digits_of-below}
 use Rattle.nap_values.proofs.SpellingLemmas.{AreTwoBits, length-words_of_triples, words_of_triples-words, digits-words_of_triples, words_of_triples-digits, g_digits-below, r_digits-below, b_digits-below}
 use Rattle.nap_values.proofs.MaskLemmas.{value_of-scaled, everywhere, map_same, moved_bits, masked_bytes}
-use Rattle.nap_values.proofs.PackedLemmas.{words_in-value, length-words_in}
+use Rattle.nap_values.proofs.PackedLemmas.{words_in-value, length-words_in, value-words_in}
 
 -- The three numbers of 16 bits that eight words hold.
 
@@ -45,6 +45,10 @@ module _ (g r b : ℕ) (g_fits : g < 65536) (r_fits : r < 65536) (b_fits : b < 6
   pub packed_colour-words : HoldsWords (packed_colour g r b)
   packed_colour-words = rw words_in-packed_colour triple_words-words
 
+  pub parts_in-packed_colour : (g_in (packed_colour g r b) ≡ g) × (r_in (packed_colour g r b) ≡ r) × (b_in (packed_colour g r b) ≡ b)
+  unfolding g_in r_in b_in
+  parts_in-packed_colour = rw words_in-packed_colour values-triple_words
+
 -- eight words are those of their three numbers
 pub triple_words-values : (words : List ℕ) → All IsWord words → length words ≡ 8 →
     words ≡ triple_words (value_of 4 8 (map g_digit words)) (value_of 4 8 (map r_digit words)) (value_of 4 8 (map b_digit words))
@@ -53,6 +57,16 @@ triple_words-values words all size =
     let rs = digits_of-value_of 4 8 (map r_digit words) (omega arith) (r_digits-below words all) (length-map words r_digit ∙ size) in
     let bs = digits_of-value_of 4 8 (map b_digit words) (omega arith) (b_digits-below words all) (length-map words b_digit ∙ size) in
     rw (gs, rs, bs) (sym (words_of_triples-digits words all))
+
+-- a number that holds words is that of its three numbers
+pub packed_colour-in : (n : ℕ) → HoldsWords n → packed_colour (g_in n) (r_in n) (b_in n) ≡ n
+unfolding packed_colour g_in r_in b_in
+packed_colour-in n words = ap (value_of 256 8) (sym (triple_words-values (words_in n) words (length-words_in n words))) ∙ value-words_in n words
+
+-- its words are those of its three numbers
+pub words_of_colour : (n : ℕ) → HoldsWords n → (g r b : ℕ) → g_in n ≡ g → r_in n ≡ r → b_in n ≡ b → words_in n ≡ triple_words g r b
+unfolding g_in r_in b_in
+words_of_colour n words g r b g_is r_is b_is = rw (← g_is, ← r_is, ← b_is) (triple_words-values (words_in n) words (length-words_in n words))
 
 -- two bits of each byte, copied so that a mask keeps each at its position
 module _ (times mask : ℕ) (place : ℕ → ℕ) (mask_fits : mask < 256)

@@ -6,7 +6,7 @@ use Rattle.nap_values.proofs.SpellingLemmas.{x_digits-below, y_digits-below}
 -- The signs of both numbers that words hold.
 
 -- the highest bits of both digits of a word
-signs_of_word : (word : ℕ) → bit_and word 36 ≡ (word / 8 / 4 % 2) * 32 + (word % 8 / 4 % 2) * 4
+pub signs_of_word : (word : ℕ) → bit_and word 36 ≡ (word / 8 / 4 % 2) * 32 + (word % 8 / 4 % 2) * 4
 signs_of_word word =
     let split : word / 8 * 8 + word % 8 ≡ word = div-add-mod' word 8 in
     ap (λ w. bit_and w 36) (sym split)

@@ -1,7 +1,12 @@
 //! Addresses of the colour map, and colours by their components.
+ghost use Rattle.std.specs.Prelude.{◌≡◌, ◌<◌, ◌↔◌, IsSome, IfSome, ◌≤◌, All};
+ghost use Rattle.nap_values.specs.Digits.{value_of, digits_of};
+ghost use Rattle.nap_values.specs.Operands.{colour_of};
+ghost use Rattle.nap_values.specs.PackedCoordinates.{words_in};
+ghost use Rattle.nap_values.specs.PackedColours.{g_in, r_in, b_in, packed_colour};
 
-ghost use Rattle.std.specs.Prelude.{◌≡◌, ◌<◌, ◌↔◌, IsSome, IfSome};
-
+use crate::packed::PackedWords;
+use std::fmt;
 use std::marker::Model;
 
 /// An address of the colour map, from 0 to 16,777,215: the value of a single-value operand (PROFILE.md, Operands).
@@ -54,25 +59,67 @@ impl Addr {
 }
 
 /// A colour by its green, red and blue components, 16 bits each: the value of the operand of SET COLOR (PROFILE.md,
-/// Operands).
-#[derive(Clone, Copy, PartialEq, Eq, Debug, Drop)]
+/// Operands). It is stored as the eight words that spell it.
+#[derive(Clone, Copy, Drop)]
 pub struct Grb {
-    g: u16,
-    r: u16,
-    b: u16,
+    words: u64,
 }
 
 impl Model for Grb {
+    ghost use Rattle.std.specs.Prelude.{◌≡◌};
     ghost use Rattle.nap_values.specs.Colours.{Components};
+    ghost use Rattle.nap_values.specs.PackedCoordinates.{HoldsWords};
+    ghost use Rattle.nap_values.specs.PackedColours.{b_in, g_in, packed_colour, r_in};
 
     ghost Value = { Components };
 
-    ghost view = { λ c. record { g = c.g; r = c.r; b = c.b } };
+    ghost view = { λ c. record { g = g_in c.words; r = r_in c.words; b = b_in c.words } };
 
-    ghost inverse = { λ v. record { g = v.g; r = v.r; b = v.b } };
+    ghost invariant = { λ c. HoldsWords c.words × (packed_colour (g_in c.words) (r_in c.words) (b_in c.words) ≡ c.words) };
+
+    ghost inverse = { λ v. record { words = packed_colour v.g v.r v.b } };
+
+    ghost inverse_ok = { λ c kept i. record { words = kept.1 i } };
+}
+
+impl PartialEq for Grb {
+    ghost use Rattle.std.specs.Prelude.{◌==◌};
+    ghost use Rattle.std.specs.Ordering.{on, eq_of_both};
+    ghost use Rattle.std.proofs.Common.{rules};
+    ghost use Rattle.std.specs.Cmp.Rules.{comparing};
+
+    ghost eq = { eq_of_both (on (λ c. c.g) ◌==◌) (eq_of_both (on (λ c. c.r) ◌==◌) (on (λ c. c.b) ◌==◌)) };
+
+    ghost laws = { Prim.search (comparing, rules) };
+
+    #[inline]
+    fn eq(&self, other: &Grb) -> bool {
+        self.words == other.words
+    }
+}
+
+impl Eq for Grb {
+    ghost use Rattle.std.proofs.Common.{rules};
+    ghost use Rattle.std.specs.Cmp.Rules.{comparing};
+
+    ghost laws = { Prim.search (comparing, rules) };
+}
+
+impl fmt::Debug for Grb {
+    fn fmt<W: fmt::Write>(&self, f: &mut fmt::Formatter<W>) -> fmt::Result {
+        f.debug_struct("Grb")
+            .field("g", &self.g())
+            .field("r", &self.r())
+            .field("b", &self.b())
+            .finish()
+    }
 }
 
 impl Grb {
+    ghost use Rattle.nap_values.specs.Operands.{colour_of};
+    ghost use Rattle.nap_values.specs.PackedColours.{b_in, g_in, r_in};
+    ghost use Rattle.nap_values.specs.PackedCoordinates.{HoldsWords, words_in};
+
     /// Every component is below this limit.
     pub const LIMIT: u32 = 65_536;
 
@@ -80,7 +127,28 @@ impl Grb {
     pub fn new(g: u16, r: u16, b: u16) -> Grb
         ensures { result ≡ record { g = g; r = r; b = b } }
     {
-        Grb { g, r, b }
+        Grb {
+            words: pack_colour(g, r, b).get(),
+        }
+    }
+
+    /// Returns the colour that the words spell.
+    #[inline]
+    pub(crate) fn from_words(words: PackedWords) -> Grb
+        ensures { result ≡ colour_of (words_in words) }
+    {
+        Grb { words: words.get() }
+    }
+
+    /// Returns the words that spell the colour.
+    #[inline]
+    pub(crate) fn words(self) -> PackedWords
+        ensures words { HoldsWords result }
+        ensures g { g_in result ≡ self.g }
+        ensures r { r_in result ≡ self.r }
+        ensures b { b_in result ≡ self.b }
+    {
+        PackedWords::new(self.words)
     }
 
     /// Returns the colour with these components, or `None` if one is above 65,535.
@@ -98,20 +166,97 @@ impl Grb {
     pub fn g(self) -> u16
         ensures { result ≡ self.g }
     {
-        self.g
+        g_bits(self.words())
     }
 
     /// Returns the red component.
     pub fn r(self) -> u16
         ensures { result ≡ self.r }
     {
-        self.r
+        r_bits(self.words())
     }
 
     /// Returns the blue component.
     pub fn b(self) -> u16
         ensures { result ≡ self.b }
     {
-        self.b
+        b_bits(self.words())
     }
+}
+
+/// Selects the bits of green.
+const GREEN: u64 = 0x2424_2424_2424_2424;
+
+/// Selects the bits of red.
+const RED: u64 = 0x1212_1212_1212_1212;
+
+/// Selects the bits of blue.
+const BLUE: u64 = 0x0909_0909_0909_0909;
+
+/// Selects the lowest bit of each byte.
+const LOWEST: u64 = 0x0101_0101_0101_0101;
+
+/// Spreads the eight base-4 digits of a 16-bit number, one to a byte.
+#[inline]
+fn spread_digits(n: u16) -> u64
+    ensures value { result ≡ value_of 256 8 (digits_of 4 8 n) }
+    ensures bound { result ≤ 0x0303_0303_0303_0303 }
+{
+    let n = u64::from(n);
+    // Two numbers of 8 bits, then four of 4 bits, then eight of 2 bits.
+    let halves = (n + n * 16_777_216) & 0x0000_00FF_0000_00FF;
+    let quarters = (halves + halves * 4096) & 0x000F_000F_000F_000F;
+    (quarters + quarters * 64) & 0x0303_0303_0303_0303
+}
+
+/// Returns the 16-bit number whose base-4 digits are these bytes.
+#[inline]
+fn collected_digits(digits: u64) -> u16
+    requires { All (λ d. d < 4) (digits_of 256 8 digits) }
+    ensures { result ≡ value_of 4 8 (digits_of 256 8 digits) }
+{
+    // Four numbers of 4 bits, then two of 8 bits, then one of 16 bits.
+    let quarters = (digits + digits / 64) & 0x000F_000F_000F_000F;
+    let halves = (quarters + quarters / 4096) & 0x0000_00FF_0000_00FF;
+    ((halves + halves / 16_777_216) % 65_536) as u16
+}
+
+/// Packs the components of a colour. Each two-bit digit is copied to two positions: the mask keeps its lower bit at the
+/// first and its higher bit at the second.
+#[inline]
+pub(crate) fn pack_colour(g: u16, r: u16, b: u16) -> PackedWords
+    ensures { result ≡ packed_colour g r b }
+{
+    PackedWords::new(
+        (spread_digits(g) * 20 & GREEN)
+            + (spread_digits(r) * 10 & RED)
+            + (spread_digits(b) * 5 & BLUE),
+    )
+}
+
+/// Returns the 16 bits of green.
+#[inline]
+pub(crate) fn g_bits(words: PackedWords) -> u16
+    ensures { result ≡ g_in words }
+{
+    let words = words.get();
+    collected_digits((words / 32 & LOWEST) * 2 + (words / 4 & LOWEST))
+}
+
+/// Returns the 16 bits of red.
+#[inline]
+pub(crate) fn r_bits(words: PackedWords) -> u16
+    ensures { result ≡ r_in words }
+{
+    let words = words.get();
+    collected_digits((words / 16 & LOWEST) * 2 + (words / 2 & LOWEST))
+}
+
+/// Returns the 16 bits of blue.
+#[inline]
+pub(crate) fn b_bits(words: PackedWords) -> u16
+    ensures { result ≡ b_in words }
+{
+    let words = words.get();
+    collected_digits((words / 8 & LOWEST) * 2 + (words & LOWEST))
 }

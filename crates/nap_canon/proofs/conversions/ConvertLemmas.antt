@@ -1,11 +1,9 @@
 -- The answer of a conversion, by the state of its reader.
 
 use Rattle.nap_canon.proofs.Common.{Answers, AnswersBy, Appends, Appends-kept, Bool, BreaksAmong, BreaksInRun, Broke, Canonical, Cause, Concludes, Consumes, Consumes-nil, ConvertFault, Converts, EndsOutput, Entry, Err, FeedFault, Feeds, FlushedOnce, Ghosts, HasRead, IsKnown, IsPrefixOf, IsTaken, Keeps, LastRead, List, None, Ok, Outcome, Reader, Refusal, Result, Sends, Some, StartsText, StopsAtOnce, Took, Writes, [], ap, append_assoc, arith, begun, begun_comes_first, budget_of, cause_of, device, drop, end_breaks_among, ended_by, false, false≢true, fed_breaks_among, flush_count, header, inl, inr, left_of, length, list_of, means, memory, more_bytes_keep_entries, pieces, pieces_bytes, reading, refl, refusal_of, sending, sending_of, sink_of, start, stream, subst, sym, take, take-append-drop, text, text_end_after_header, true, ℕ, ◌++◌, ◌||◌, ◌∙◌, ◌≡◌, ◌≢◌}
-use Rattle.nap_canon.specs.declared.form.Form.TheVariants.{Two}
-use Rattle.nap_list.specs.declared.device.inlet.Inlet as inlet
-use Rattle.nap_list.specs.declared.device.outlet.Outlet as outlet
-use Rattle.nap_reader.specs.declared.feeding.FeedFault.TheVariants as feed_fault
-use Rattle.nap_canon.specs.declared.conversion.ConvertFault.TheVariants as fault
+use Rattle.nap_canon.specs.declared.text.Form.TheVariants.{Two}
+use Rattle.nap_list.specs.declared.device.Inlet as inlet
+use Rattle.nap_list.specs.declared.device.Outlet as outlet
 use Rattle.nap_canon.proofs.conversions.WentOutLemmas.{prefix_refl, Leaves, concluded, leaves_whole, leaves_refused, leaves_cut, leaves_broken}
 
 -- An output that was written to the end is flushed once if no write failed.
@@ -69,7 +67,7 @@ module _ {O : Type 0} (o : outlet.Ghosts O) (w : O) (s : Canonical O) (begins : 
         drop sent.part header ++ pieces_bytes text_end_after_header (pieces Two start d),
         ap (λ (bytes : List ℕ). bytes ++ pieces_bytes text_end_after_header (pieces Two start d)) (sym (take-append-drop sent.part header)) ∙ append_assoc q (drop sent.part header) (pieces_bytes text_end_after_header (pieces Two start d)),
       ) in
-      let is : answer ≡ Err (fault.Write s.written) = subst (λ (b : Bool). Concludes s.written (Ok tt) b answer) failed ends in (
+      let is : answer ≡ Err (ConvertFault.Write s.written) = subst (λ (b : Bool). Concludes s.written (Ok tt) b answer) failed ends in (
         q,
         Appends-kept (o.taken w) (o.taken s.outlet) (o.taken u) q sent.grows.taken keeps,
         rw (failed, is) (
@@ -108,13 +106,13 @@ module _ {O : Type 0} (o : outlet.Ghosts O) (w : O) (s : Canonical O) (begins : 
 
     -- the feeding stopped before the end
     pub fed_leaves : (fault : FeedFault) (h : Feeds i old new s p initial final (Err fault)) → Ends h.last (sink_of new) (Err fault)
-    fed_leaves feed_fault.Read h =
+    fed_leaves FeedFault.Read h =
         let known = unrefused new s p h.has_read (budget_of old) same h.ends.1 in
         leaves_cut o w s begins works (budget_of old) p (reading i initial final) h.last.before (first_of h.last) (sink_of new) h.ends.0 known.refusal
         (took_is (sink_of new) (begun (budget_of old) p).entries known.taken)
-    fed_leaves (feed_fault.Refused r) h = at (cause_of r.fault) refl (refused_by new s p h.has_read (budget_of old) r same h.ends.1)
+    fed_leaves (FeedFault.Refused r) h = at (cause_of r.fault) refl (refused_by new s p h.has_read (budget_of old) r same h.ends.1)
       where
-        broken : cause_of r.fault ≢ stream → Ends h.last (sink_of new) (Err (feed_fault.Refused r))
+        broken : cause_of r.fault ≢ stream → Ends h.last (sink_of new) (Err (FeedFault.Refused r))
         broken broke =
             let budget = budget_of old in
             let (n, within, stops) = h.stops in
@@ -124,7 +122,7 @@ module _ {O : Type 0} (o : outlet.Ghosts O) (w : O) (s : Canonical O) (begins : 
             (begun budget h.last.before).entries (begun budget p) here h.ends.0 (prefix_refl (begun budget h.last.before).entries) (begun_comes_first budget p)
             (λ q prefix. inr prefix) broke
 
-        at : (cause : Cause) → cause_of r.fault ≡ cause → AnswersBy g s (budget_of old) p (sink_of new) (left_of new) r cause → Ends h.last (sink_of new) (Err (feed_fault.Refused r))
+        at : (cause : Cause) → cause_of r.fault ≡ cause → AnswersBy g s (budget_of old) p (sink_of new) (left_of new) r cause → Ends h.last (sink_of new) (Err (FeedFault.Refused r))
         at stream own known =
             let budget = budget_of old in
             let whole = means_refused budget p r known.refusal in
@@ -144,20 +142,20 @@ module _ {O : Type 0} (o : outlet.Ghosts O) (w : O) (s : Canonical O) (begins : 
           leaves_whole o w s begins works (budget_of old) p (reading i initial final) h.last.before (first_of h.last) t h.ends.0 here.0 (took_is t (list_of (budget_of old) p) here.1)
 
       pub end_leaves : (t : Canonical O) (r : Refusal) → (cause_of r.fault ≡ stream → IsTaken g s (means (budget_of new) p) t (Some r)) →
-          (cause_of r.fault ≢ stream → BreaksInRun g s (budget_of new) p t r) → Ends h.last t (Err (feed_fault.Refused r))
+          (cause_of r.fault ≢ stream → BreaksInRun g s (budget_of new) p t r) → Ends h.last t (Err (FeedFault.Refused r))
       end_leaves t r own broke = at (cause_of r.fault) refl
         where
           known : IsKnown g s (begun (budget_of old) p) (sink_of new) (left_of new) None
           known = unrefused new s p h.has_read (budget_of old) same h.ends.1
 
-          broken : cause_of r.fault ≢ stream → Ends h.last t (Err (feed_fault.Refused r))
+          broken : cause_of r.fault ≢ stream → Ends h.last t (Err (FeedFault.Refused r))
           broken other =
               let budget = budget_of old in
               let among = end_breaks_among g s budget p t r known.refusal (subst (λ (b : ℕ). BreaksInRun g s b p t r) same (broke other)) in
               leaves_broken o w s begins works budget p (reading i initial final) h.last.before (first_of h.last) g took_is broke_is failed_is wants_none t r (begun budget p).entries
               (means budget p) among h.ends.0.none_failed (first_of h.last) (prefix_refl (list_of budget p)) (λ q prefix. inl h.ends.0) other
 
-          at : (cause : Cause) → cause_of r.fault ≡ cause → Ends h.last t (Err (feed_fault.Refused r))
+          at : (cause : Cause) → cause_of r.fault ≡ cause → Ends h.last t (Err (FeedFault.Refused r))
           at stream is =
               let here = subst (λ (budget : ℕ). IsTaken g s (means budget p) t (Some r)) same (own is) in
               leaves_refused o w s begins works (budget_of old) p (reading i initial final) h.last.before (first_of h.last) t r h.ends.0.none_failed (inl h.ends.0)
@@ -198,11 +196,11 @@ module _ {O : Type 0} (o : outlet.Ghosts O) (w : O) (s : Canonical O) (begins : 
         closes p read h.last t (Ok tt) (whole_leaves works i initial final old new p same h t (taken p h.has_read))
 
     pub end_converts : Fed (Ok tt) → (t : Canonical O) (r : Refusal) → (cause_of r.fault ≡ stream → (p : List ℕ) → HasRead new s p → IsTaken g s (means (budget_of new) p) t (Some r)) →
-        (refusal_of new ≡ None → cause_of r.fault ≢ stream → (p : List ℕ) → HasRead new s p → BreaksInRun g s (budget_of new) p t r) → Closes t (Err (feed_fault.Refused r)) →
+        (refusal_of new ≡ None → cause_of r.fault ≢ stream → (p : List ℕ) → HasRead new s p → BreaksInRun g s (budget_of new) p t r) → Closes t (Err (FeedFault.Refused r)) →
         Converted i o budget initial final w u answer
     end_converts (p, read, feeds) t r own broke =
         let h = feeds s has_read in
-        closes p read h.last t (Err (feed_fault.Refused r)) (end_leaves works i initial final old new p same h t r (λ is. own is p h.has_read) (λ other. broke h.ends.1 other p h.has_read))
+        closes p read h.last t (Err (FeedFault.Refused r)) (end_leaves works i initial final old new p same h t r (λ is. own is p h.has_read) (λ other. broke h.ends.1 other p h.has_read))
 
     pub fed_converts : (fault : FeedFault) → Fed (Err fault) → (t : Canonical O) → t ≡ sink_of new → Closes t (Err fault) → Converted i o budget initial final w u answer
     fed_converts fault (p, read, feeds) t left =

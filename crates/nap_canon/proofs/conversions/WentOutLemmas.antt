@@ -1,9 +1,8 @@
 -- The bytes that a conversion wrote are a prefix of the text, and all of it if all was read.
 
 use Rattle.nap_canon.proofs.Common.{Appends, Appends-kept, Bool, BreaksAmong, Broke, Canonical, Cause, Concludes, ConvertFault, Converts, Entry, Err, FeedFault, Form, Ghosts, Grows, IsCutOff, IsPrefixOf, IsReadWhole, Keeps, LacksWithin, List, None, NoneFailed, Ok, Outcome, Reading, Refusal, RefusesBy, Result, Some, StartsText, State, TextEnd, Took, TookPrefix, WantsSome, Writes, [], after, answer_of, ap, append-nil, append_assoc, arith, begun, begun_comes_first, cause_of, count_of, device, drop, entry_bytes, entry_bytes_after, entry_pieces, false, grows_more, header, inl, inr, list_of, means, memory, pieces, pieces_bytes, pieces_bytes-append, refl, sending, sending_of, start, stream, subst, sym, take, take-append-drop, text, text_end_after, text_end_after_header, true, walk, ℕ, ◌++◌, ◌∙◌, ◌∷◌, ◌≡◌, ◌≢◌, ◌⊎◌}
-use Rattle.nap_canon.specs.declared.form.Form.TheVariants.{Two}
-use Rattle.nap_list.specs.declared.device.outlet.Outlet as outlet
-use Rattle.nap_reader.specs.declared.feeding.FeedFault.TheVariants as feed_fault
+use Rattle.nap_canon.specs.declared.text.Form.TheVariants.{Two}
+use Rattle.nap_list.specs.declared.device.Outlet as outlet
 use Rattle.nap_canon.proofs.sinks.SinkingLemmas.{first_of_text, header_sent, sink_writes_text}
 use Rattle.nap_canon.proofs.texts.TextLemmas.{text_of_entries}
 
@@ -113,19 +112,19 @@ module _ {O : Type 0} (o : outlet.Ghosts O) (w : O) (s : Canonical O) (begins : 
     -- the stream is refused
     pub leaves_refused : (t : Canonical O) (r : Refusal) → NoneFailed seen → IsReadWhole seen p ⊎ ((begun budget p).refusal ≡ Some r) →
         IsReadWhole seen p ⊎ IsPrefixOf (text (list_of budget p)) (text (begun budget p).entries) → cause_of r.fault ≡ stream →
-        (means budget p).refusal ≡ Some r → Took o s (list_of budget p) t → Leaves t (Err (feed_fault.Refused r))
+        (means budget p).refusal ≡ Some r → Took o s (list_of budget p) t → Leaves t (Err (FeedFault.Refused r))
     leaves_refused t r none_failed left out own refused took =
-        took_all t (Err (feed_fault.Refused r)) (list_of budget p) took (prefix_refl (list_of budget p)) out known_in_whole (λ count. (
+        took_all t (Err (FeedFault.Refused r)) (list_of budget p) took (prefix_refl (list_of budget p)) out known_in_whole (λ count. (
           count,
           subst (RefusesBy budget p seen (text (list_of budget p)) r) (sym own)
               (record { none_failed = none_failed; refused = refused; text = refl; left = left }),
         ))
 
     -- the input failed
-    pub leaves_cut : (t : Canonical O) → IsCutOff seen p → (begun budget p).refusal ≡ None → Took o s (begun budget p).entries t → Leaves t (Err feed_fault.Read)
+    pub leaves_cut : (t : Canonical O) → IsCutOff seen p → (begun budget p).refusal ≡ None → Took o s (begun budget p).entries t → Leaves t (Err FeedFault.Read)
     leaves_cut t cut going took =
         let d = (begun budget p).entries in
-        took_all t (Err feed_fault.Read) d took (begun_comes_first budget p) (inr (prefix_refl (text d))) known_first
+        took_all t (Err FeedFault.Read) d took (begun_comes_first budget p) (inr (prefix_refl (text d))) known_first
         (λ count. (count, record { cut_off = cut; going = going; text = refl }))
 
     -- Reading ended without a refusal: memory ran out, or a write failed.
@@ -139,19 +138,19 @@ module _ {O : Type 0} (o : outlet.Ghosts O) (w : O) (s : Canonical O) (begins : 
       own (inl reader) = reader
       own (inr (some, rest, parts, wants)) = absurd (wants_none some wants)
 
-      lacks : cause_of r.fault ≡ memory → TookPrefix g s known among.from.more t memory → Leaves t (Err (feed_fault.Refused r))
+      lacks : cause_of r.fault ≡ memory → TookPrefix g s known among.from.more t memory → Leaves t (Err (FeedFault.Refused r))
       lacks is (taken, rest, parts, took) =
           let d = known ++ taken in
           let d_first : IsPrefixOf d end.entries = (rest, among.from.adds ∙ ap (λ (es : List Entry). known ++ es) parts ∙ sym (append_assoc known taken rest)) in
           let d_whole = prefix_trans d end.entries (list_of budget p) d_first in_whole in
-          took_all t (Err (feed_fault.Refused r)) d (took_is t d took) d_whole (left (text d) (text_prefix d end.entries d_first))
+          took_all t (Err (FeedFault.Refused r)) d (took_is t d took) d_whole (left (text d) (text_prefix d end.entries d_first))
           (prefix_trans (begun budget before).entries known d first (taken, refl)) (λ count. (
             count,
             subst (RefusesBy budget p seen (text d) r) (sym is)
                 (record { none_failed = none_failed; place = own (among.wants is); taken = d; prefix = d_whole; text = refl }),
           ))
 
-      breaks : TookPrefix g s known among.from.more t device → Leaves t (Err (feed_fault.Refused r))
+      breaks : TookPrefix g s known among.from.more t device → Leaves t (Err (FeedFault.Refused r))
       breaks (inl (failed, part)) = let bad = sym works ∙ (sym failed_is ∙ failed) in cc
       breaks (inr (taken, next, rest, parts, broke)) =
           let d = known ++ taken in
@@ -171,10 +170,10 @@ module _ {O : Type 0} (o : outlet.Ghosts O) (w : O) (s : Canonical O) (begins : 
             λ whole. let bad = sym h.failed ∙ whole in cc,
           )
 
-      at : (cause : Cause) → cause_of r.fault ≡ cause → cause ≢ stream → TookPrefix g s known among.from.more t cause → Leaves t (Err (feed_fault.Refused r))
+      at : (cause : Cause) → cause_of r.fault ≡ cause → cause ≢ stream → TookPrefix g s known among.from.more t cause → Leaves t (Err (FeedFault.Refused r))
       at stream is broke part = absurd part
       at memory is broke part = lacks is part
       at device is broke part = breaks part
 
-      pub leaves_broken : cause_of r.fault ≢ stream → Leaves t (Err (feed_fault.Refused r))
+      pub leaves_broken : cause_of r.fault ≢ stream → Leaves t (Err (FeedFault.Refused r))
       leaves_broken broke = at (cause_of r.fault) refl broke among.from.part

@@ -1,10 +1,8 @@
 -- The opcodes of a plain stream act under operands of eight words and four words.
 
-use Rattle.nap_canon.proofs.Common.{Acting, ActsUnderEightAndFour, All, All-cons, All-head, All-nil, All-tail, AllMayFollow, Bool, CodeSets, DrawFault, Err, IsPlainCode, LexResult, List, Machine, Mode, None, Ok, Opcode, Option, Outcome, Placed, PlainOperandLengths, Refusal, Result, RuleResult, Some, StreamFront, Work, [], acting_after, acting_at, acting_in, acting_within, after_charge, after_drawing, ap, arith, begun, between, body_of, bytes_of, carried_words, closed_front, code_length, code_rule, code_taken, cond, drawn_front, drop, ended_by, false, front_after_front, front_by, front_in, get_or, length, length-drop, length-map, lex_result, lex_result_by, map, nat_lt, no_names, one_byte_opcode, opcodes_of, opened_front, outcome_by_front, outcome_from, place_at, placed_from, refl, refusal, replicate, rule, run_front, run_length, run_limit, shown_front, start_machine, start_sets, steps_left, stream_front, subst, suc, sym, take, true, zero, ℕ, ◌++◌, ◌+◌, ◌-◌, ◌<◌, ◌∙◌, ◌∷◌, ◌≡◌}
+use Rattle.nap_canon.proofs.Common.{Acting, ActsUnderEightAndFour, All, All-cons, All-head, All-nil, All-tail, AllMayFollow, Bool, CodeSets, DrawFault, Err, Fault, IsPlainCode, LexResult, List, Machine, Mode, None, Ok, Opcode, Option, Outcome, Placed, PlainOperandLengths, Refusal, Result, RuleResult, Some, StreamFront, Work, [], acting_after, acting_at, acting_in, acting_within, after_charge, after_drawing, ap, arith, begun, between, body_of, bytes_of, carried_words, closed_front, code_length, code_rule, code_taken, cond, drawn_front, drop, ended_by, false, front_after_front, front_by, front_in, get_or, length, length-drop, length-map, lex_result, lex_result_by, map, nat_lt, no_names, one_byte_opcode, opcodes_of, opened_front, outcome_by_front, outcome_from, place_at, placed_from, refl, refusal, replicate, rule, run_front, run_length, run_limit, shown_front, start_machine, start_sets, steps_left, stream_front, subst, suc, sym, take, true, zero, ℕ, ◌++◌, ◌+◌, ◌-◌, ◌<◌, ◌∙◌, ◌∷◌, ◌≡◌}
 use Rattle.nap_codes.specs.declared.code.Code.{Code}
-use Rattle.nap_codes.specs.declared.code.Code.TheVariants as code
 use Rattle.nap_codes.specs.Front as codes
-use Rattle.nap_reader.specs.declared.fault.Fault.TheVariants as faults
 use Rattle.nap_reader.specs.Course as course
 use Rattle.nap_canon.proofs.operand_lengths.FrontCodes.{no_front, lexed_front, pdi_in_gl, operands_of, run_codes}
 use Rattle.nap_canon.proofs.reading.PlacedLemmas.{bytes_of-placed}
@@ -65,7 +63,7 @@ nothing_lexed sets = ap (λ (l : LexResult). l.codes) (lexed_front sets [] ∙ a
 
 each_after : (words : List ℕ) (rest : List Code) → All IsPlainCode (operands_of words ++ rest) → All IsPlainCode rest
 each_after [] rest each = each
-each_after (word ∷ words) rest each = each_after words rest (All-tail IsPlainCode (code.Operand word) (operands_of words ++ rest) each)
+each_after (word ∷ words) rest each = each_after words rest (All-tail IsPlainCode (Code.Operand word) (operands_of words ++ rest) each)
 
 follow_after : (words : List ℕ) (rest : List Code) → AllMayFollow (operands_of words ++ rest) → AllMayFollow rest
 unfolding AllMayFollow
@@ -79,8 +77,8 @@ opcodes_after (word ∷ words) rest = opcodes_after words rest
 -- an opcode
 
 -- an opcode acts, and these act after it
-known_opcode : (work : Work) (op : Opcode) (words : List ℕ) (rest : List Code) (acts : List Acting) → Stage work (code.Op op ∷ operands_of words ++ rest) → Known acts rest →
-    Known (record { op = op; lengths = work.domain } ∷ acts) (code.Op op ∷ operands_of words ++ rest)
+known_opcode : (work : Work) (op : Opcode) (words : List ℕ) (rest : List Code) (acts : List Acting) → Stage work (Code.Op op ∷ operands_of words ++ rest) → Known acts rest →
+    Known (record { op = op; lengths = work.domain } ∷ acts) (Code.Op op ∷ operands_of words ++ rest)
 known_opcode work op words rest acts stage known = record {
   all = ap (λ (ops : List Opcode). op ∷ ops) (known.all ∙ sym (opcodes_after words rest));
   each = All-cons ActsUnderEightAndFour (record { op = op; lengths = work.domain }) acts
@@ -90,7 +88,7 @@ known_opcode work op words rest acts stage known = record {
 -- the statement for an opcode with these words after it, and for its front
 abbrev OpcodeGoes : ℕ → Machine → Opcode → List Placed → List ℕ → List Placed → StreamFront → Type 0
 OpcodeGoes fuel m op xs words rest f =
-    let list : List Code = code.Op op ∷ operands_of words ++ (lex_result m.sets (bytes_of rest)).codes in
+    let list : List Code = Code.Op op ∷ operands_of words ++ (lex_result m.sets (bytes_of rest)).codes in
     Going m xs f → Asks m.work list → Known (record { op = op; lengths = m.work.domain } ∷ acting_after (acting_within fuel) f) list
 
 module _ (fuel : ℕ) (m : Machine) (op : Opcode) (place : ℕ) (xs : List Placed) (is_between : IsBetween m) where
@@ -102,7 +100,7 @@ module _ (fuel : ℕ) (m : Machine) (op : Opcode) (place : ℕ) (xs : List Place
       let list : List Code = (lex_result m.sets (bytes_of rest)).codes in
       let asked : Asks d.work list = record {
         stage = opcode_stage m.work op words list d e asks.stage asks.follow.0;
-        each = each_after words list (All-tail IsPlainCode (code.Op op) (operands_of words ++ list) asks.each);
+        each = each_after words list (All-tail IsPlainCode (Code.Op op) (operands_of words ++ list) asks.each);
         follow = follow_after words list asks.follow.1;
       } in
       known_opcode m.work op words list (acting_within fuel (after_drawing m d) rest) asks.stage (ih (after_drawing m d) (between_after_drawing m d is_between) going asked)
@@ -110,32 +108,32 @@ module _ (fuel : ℕ) (m : Machine) (op : Opcode) (place : ℕ) (xs : List Place
   closed_goes : (run rest : List Placed) → ((w : Machine) → Goes fuel w rest) → OpcodeGoes fuel m op xs (carried_words run) rest (closed_front m op place run rest)
   closed_goes run [] ih going asks =
       let none : (lex_result m.sets []).codes ≡ [] = nothing_lexed m.sets in
-      subst (λ (list : List Code). Known (record { op = op; lengths = m.work.domain } ∷ []) (code.Op op ∷ operands_of (carried_words run) ++ list)) (sym none)
+      subst (λ (list : List Code). Known (record { op = op; lengths = m.work.domain } ∷ []) (Code.Op op ∷ operands_of (carried_words run) ++ list)) (sym none)
       (known_opcode m.work op (carried_words run) [] []
-      (subst (λ (list : List Code). Stage m.work (code.Op op ∷ operands_of (carried_words run) ++ list)) none asks.stage) known_nothing)
+      (subst (λ (list : List Code). Stage m.work (Code.Op op ∷ operands_of (carried_words run) ++ list)) none asks.stage) known_nothing)
   closed_goes run (y ∷ ys) ih going asks = drawn_goes (carried_words run) (y ∷ ys) (rule m.work op (carried_words run)) refl ih going asks
 
   run_goes : (run rest : List Placed) → ((w : Machine) → Goes fuel w rest) → OpcodeGoes fuel m op xs (carried_words run) rest (run_front m op place run rest)
   run_goes run rest ih = at (nat_lt run_limit (length run))
     where
-      at : (long : Bool) → OpcodeGoes fuel m op xs (carried_words run) rest (cond long (course.refuse (refusal faults.LongRun place)) (closed_front m op place run rest))
+      at : (long : Bool) → OpcodeGoes fuel m op xs (carried_words run) rest (cond long (course.refuse (refusal Fault.LongRun place)) (closed_front m op place run rest))
       at true going asks = let bad : ⊥ = cc in absurd bad
       at false going asks = closed_goes run rest ih going asks
 
 opcode_goes : (fuel : ℕ) (m : Machine) (op : Opcode) (xs : List Placed) → IsBetween m → ((w : Machine) (ys : List Placed) → length ys < length xs → Goes fuel w ys) →
-    codes.front m.sets (bytes_of xs) ≡ codes.complete (code.Op op) 1 m.sets →
-    Going m xs (front_by m xs (codes.complete (code.Op op) 1 m.sets)) → Asks m.work (code.Op op ∷ (lex_result m.sets (bytes_of (drop 1 xs))).codes) →
-    Known (record { op = op; lengths = m.work.domain } ∷ acting_after (acting_within fuel) (front_by m xs (codes.complete (code.Op op) 1 m.sets)))
-    (code.Op op ∷ (lex_result m.sets (bytes_of (drop 1 xs))).codes)
-opcode_goes fuel m op [] is_between ih e going asks = absurd (omega (arith, (code_length m.sets [] (code.Op op) 1 m.sets e).1))
+    codes.front m.sets (bytes_of xs) ≡ codes.complete (Code.Op op) 1 m.sets →
+    Going m xs (front_by m xs (codes.complete (Code.Op op) 1 m.sets)) → Asks m.work (Code.Op op ∷ (lex_result m.sets (bytes_of (drop 1 xs))).codes) →
+    Known (record { op = op; lengths = m.work.domain } ∷ acting_after (acting_within fuel) (front_by m xs (codes.complete (Code.Op op) 1 m.sets)))
+    (Code.Op op ∷ (lex_result m.sets (bytes_of (drop 1 xs))).codes)
+opcode_goes fuel m op [] is_between ih e going asks = absurd (omega (arith, (code_length m.sets [] (Code.Op op) 1 m.sets e).1))
 opcode_goes fuel m op (x ∷ ys) is_between ih e going asks =
-    let names = code_taken m.sets (bytes_of (x ∷ ys)) (code.Op op) 1 m.sets e in
+    let names = code_taken m.sets (bytes_of (x ∷ ys)) (Code.Op op) 1 m.sets e in
     let k : ℕ = run_length ys in
     let cut = run_codes m.sets ys (pdi_in_gl m.sets x.byte op names) in
     let few : length (drop k ys) < length (x ∷ ys) = simp length-drop (omega arith) in
-    subst (λ (list : List Code). Known (record { op = op; lengths = m.work.domain } ∷ acting_after (acting_within fuel) (opened_front m op x.place ys)) (code.Op op ∷ list)) (sym cut)
+    subst (λ (list : List Code). Known (record { op = op; lengths = m.work.domain } ∷ acting_after (acting_within fuel) (opened_front m op x.place ys)) (Code.Op op ∷ list)) (sym cut)
     (run_goes fuel m op x.place (x ∷ ys) is_between (take k ys) (drop k ys) (λ w. ih w (drop k ys) few) going
-    (subst (λ (list : List Code). Asks m.work (code.Op op ∷ list)) cut asks))
+    (subst (λ (list : List Code). Asks m.work (Code.Op op ∷ list)) cut asks))
 
 -- a code that is no opcode
 
@@ -163,19 +161,19 @@ module _ (fuel : ℕ) (m : Machine) (xs : List Placed) (after : CodeSets) (ys : 
       record { all = known.all ∙ sym same; each = known.each }
 
   -- the call of a macro that isn't bound
-  call_goes : (name place : ℕ) (body : List ℕ) → body ≡ [] → CodeGoes (code.Call name) (shown_front shifted place body ys)
+  call_goes : (name place : ℕ) (body : List ℕ) → body ≡ [] → CodeGoes (Code.Call name) (shown_front shifted place body ys)
   call_goes name place (b ∷ bs) is going asks = let bad : ⊥ = cc in absurd bad
   call_goes name place [] is going asks = at (nat_lt m.left 0) going
     where
       next : Machine
       next = after_charge shifted 0
 
-      at : (less : Bool) → Going m xs (cond less (course.refuse (refusal faults.Budget place)) (course.act [] next ys)) →
-          Known (acting_after (acting_within fuel) (cond less (course.refuse (refusal faults.Budget place)) (course.act [] next ys))) (code.Call name ∷ later)
+      at : (less : Bool) → Going m xs (cond less (course.refuse (refusal Fault.Budget place)) (course.act [] next ys)) →
+          Known (acting_after (acting_within fuel) (cond less (course.refuse (refusal Fault.Budget place)) (course.act [] next ys))) (Code.Call name ∷ later)
       at true going = let bad : ⊥ = cc in absurd bad
       at false going =
           let known = ih next (record { mode = is_between.mode; names = is_between.names }) going
-          (next_plain m.work m.work (code.Call name) later (quiet_stage m.work m.work (code.Call name) later tt refl refl refl) asks) in
+          (next_plain m.work m.work (Code.Call name) later (quiet_stage m.work m.work (Code.Call name) later tt refl refl refl) asks) in
           record { all = known.all; each = known.each }
 
 -- any code
@@ -201,18 +199,18 @@ module _ (fuel : ℕ) (m : Machine) (xs : List Placed) (is_between : IsBetween m
       (c ∷ (lex_result after (bytes_of (drop n xs))).codes)
 
   by_code : (c : Code) (n : ℕ) (after : CodeSets) → codes.front m.sets (bytes_of xs) ≡ codes.complete c n after → length (drop n xs) < length xs → ByCode c n after
-  by_code (code.Op op) n after e less going asks =
+  by_code (Code.Op op) n after e less going asks =
       let one = one_byte_opcode m.sets (bytes_of xs) op n after e in
-      let there : codes.front m.sets (bytes_of xs) ≡ codes.complete (code.Op op) 1 m.sets = e ∙ rw (one.0, one.1) refl in
-      subst (λ (k : ℕ). ByCode (code.Op op) k after) (sym one.0)
-      (subst (ByCode (code.Op op) 1) (sym one.1) (opcode_goes fuel m op xs is_between ih there)) going asks
-  by_code (code.Operand word) n after e less going asks = let bad : ⊥ = cc in absurd bad
-  by_code (code.DefMacro name show) n after e less going asks = absurd (All-head IsPlainCode (code.DefMacro name show) _ asks.each)
-  by_code code.Fill n after e less going asks = idle_goes fuel m xs after (drop n xs) is_between (λ w. ih w (drop n xs) less) code.Fill tt refl going asks
-  by_code code.Shifted n after e less going asks = idle_goes fuel m xs after (drop n xs) is_between (λ w. ih w (drop n xs) less) code.Shifted tt refl going asks
-  by_code (code.Designated number set) n after e less going asks =
-      idle_goes fuel m xs after (drop n xs) is_between (λ w. ih w (drop n xs) less) (code.Designated number set) tt refl going asks
-  by_code (code.Call name) n after e less going asks =
+      let there : codes.front m.sets (bytes_of xs) ≡ codes.complete (Code.Op op) 1 m.sets = e ∙ rw (one.0, one.1) refl in
+      subst (λ (k : ℕ). ByCode (Code.Op op) k after) (sym one.0)
+      (subst (ByCode (Code.Op op) 1) (sym one.1) (opcode_goes fuel m op xs is_between ih there)) going asks
+  by_code (Code.Operand word) n after e less going asks = let bad : ⊥ = cc in absurd bad
+  by_code (Code.DefMacro name show) n after e less going asks = absurd (All-head IsPlainCode (Code.DefMacro name show) _ asks.each)
+  by_code Code.Fill n after e less going asks = idle_goes fuel m xs after (drop n xs) is_between (λ w. ih w (drop n xs) less) Code.Fill tt refl going asks
+  by_code Code.Shifted n after e less going asks = idle_goes fuel m xs after (drop n xs) is_between (λ w. ih w (drop n xs) less) Code.Shifted tt refl going asks
+  by_code (Code.Designated number set) n after e less going asks =
+      idle_goes fuel m xs after (drop n xs) is_between (λ w. ih w (drop n xs) less) (Code.Designated number set) tt refl going asks
+  by_code (Code.Call name) n after e less going asks =
       call_goes fuel m xs after (drop n xs) is_between (λ w. ih w (drop n xs) less) name (place_at xs (n - 1)) (body_of m.names name) (nothing_bound m name is_between) going asks
   by_code c n after e less going asks =
       acting_goes fuel m xs after (drop n xs) is_between (λ w. ih w (drop n xs) less) c (place_at xs (n - 1)) (code_rule m.work c) refl tt refl going asks

@@ -2,10 +2,7 @@
 
 use Rattle.nap_canon.proofs.Common.{Bool, CodeSet, CodeSets, Front, LexResult, List, None, Opcode, Option, Placed, Row, Some, [], ap, arith, bytes_of, carried_words, code_is_spelled, code_length, complete, cond, control0_front, control0_rows, drop, escape_front, false, front, gl_front, is_graphic, is_operand, is_operand_byte, length, length-drop, lex_result, lex_result_by, lex_result_within, map, more_front, nat_tests, non_pdi_code, one_byte_later, position_front, refl, refused, row_of, run_length, set_at, single_shift_front, subst, suc, sym, take, true, unfinished, zero, ℕ, ◌&&◌, ◌++◌, ◌-◌, ◌<◌, ◌==◌, ◌∙◌, ◌∷◌, ◌≡◌, ◌≤◌}
 use Rattle.nap_codes.specs.declared.code.Code.{Code}
-use Rattle.nap_codes.specs.declared.code.Code.TheVariants as codes
 use Rattle.nap_codes.specs.declared.code.CodeFault.TheVariants.{EighthBit}
-use Rattle.nap_codes.specs.declared.code_set.CodeSet.TheVariants as code_sets
-use Rattle.nap_codes.specs.declared.control.Row.TheVariants as rows
 use Rattle.nap_codes.specs.Spelling as spells
 
 pub no_front : (sets : CodeSets) → front sets [] ≡ unfinished
@@ -50,7 +47,7 @@ lexed_front sets bytes = at (front sets bytes) refl
 -- the PDI set is in GL when an opcode is complete
 
 is_no_opcode : Row → Bool
-is_no_opcode (rows.Whole (codes.Op op)) = false
+is_no_opcode (Row.Whole (Code.Op op)) = false
 is_no_opcode _ = true
 
 all_pass : (Row → Bool) → List (ℕ × Row) → Bool
@@ -68,10 +65,10 @@ row_passes p (r ∷ rs) byte row all is = at (byte == r.0) is (p r.1) refl all (
     at true is true e all later = let same_row : r.1 ≡ row = cc in ap p (sym same_row) ∙ e
     at false is true e all later = later all is
 
-no_row : (byte : ℕ) (op : Opcode) → row_of control0_rows byte ≡ Some (rows.Whole (codes.Op op)) → ⊥
+no_row : (byte : ℕ) (op : Opcode) → row_of control0_rows byte ≡ Some (Row.Whole (Code.Op op)) → ⊥
 unfolding all_pass is_no_opcode control0_rows
 no_row byte op is =
-    let bad : ◌≡◌ {A = Bool} false true = row_passes is_no_opcode control0_rows byte (rows.Whole (codes.Op op)) refl is in
+    let bad : ◌≡◌ {A = Bool} false true = row_passes is_no_opcode control0_rows byte (Row.Whole (Code.Op op)) refl is in
     cc
 
 nothing_more : (sets : CodeSets) (byte : ℕ) → more_front sets byte [] ≡ unfinished
@@ -85,61 +82,61 @@ nothing_more sets byte = at (byte == 0x1B) (byte == 0x1C) (byte == 0x19)
     at false false false = refl
 
 module _ (sets : CodeSets) (byte : ℕ) (op : Opcode) where
-  by_set : (set : CodeSet) → gl_front sets byte (non_pdi_code set byte) ≡ complete (codes.Op op) 1 sets → set ≡ code_sets.Pdi
+  by_set : (set : CodeSet) → gl_front sets byte (non_pdi_code set byte) ≡ complete (Code.Op op) 1 sets → set ≡ CodeSet.Pdi
   unfolding gl_front non_pdi_code
-  by_set code_sets.Pdi is = refl
-  by_set code_sets.Primary is = let bad : ⊥ = cc in absurd bad
-  by_set code_sets.Supplementary is = let bad : ⊥ = cc in absurd bad
-  by_set code_sets.Mosaic is = let bad : ⊥ = cc in absurd bad
-  by_set code_sets.Drcs is = let bad : ⊥ = cc in absurd bad
-  by_set code_sets.Macros is = let bad : ⊥ = cc in absurd bad
+  by_set CodeSet.Pdi is = refl
+  by_set CodeSet.Primary is = let bad : ⊥ = cc in absurd bad
+  by_set CodeSet.Supplementary is = let bad : ⊥ = cc in absurd bad
+  by_set CodeSet.Mosaic is = let bad : ⊥ = cc in absurd bad
+  by_set CodeSet.Drcs is = let bad : ⊥ = cc in absurd bad
+  by_set CodeSet.Macros is = let bad : ⊥ = cc in absurd bad
 
-  by_row : (row : Option Row) → row_of control0_rows byte ≡ row → control0_front sets byte [] row ≡ complete (codes.Op op) 1 sets → set_at sets sets.gl ≡ code_sets.Pdi
+  by_row : (row : Option Row) → row_of control0_rows byte ≡ row → control0_front sets byte [] row ≡ complete (Code.Op op) 1 sets → set_at sets sets.gl ≡ CodeSet.Pdi
   unfolding control0_front one_byte_later
-  by_row (Some (rows.Whole c)) e is =
-      let same : c ≡ codes.Op op = cc in
-      absurd (no_row byte op (e ∙ ap (λ (x : Code). Some (rows.Whole x)) same))
-  by_row (Some (rows.Out name)) e is = let bad : ⊥ = cc in absurd bad
-  by_row (Some rows.More) e is =
+  by_row (Some (Row.Whole c)) e is =
+      let same : c ≡ Code.Op op = cc in
+      absurd (no_row byte op (e ∙ ap (λ (x : Code). Some (Row.Whole x)) same))
+  by_row (Some (Row.Out name)) e is = let bad : ⊥ = cc in absurd bad
+  by_row (Some Row.More) e is =
       let more : one_byte_later (more_front sets byte []) ≡ unfinished = ap one_byte_later (nothing_more sets byte) in
-      let bad : ◌≡◌ {A = Front} unfinished (complete (codes.Op op) 1 sets) = sym more ∙ is in
+      let bad : ◌≡◌ {A = Front} unfinished (complete (Code.Op op) 1 sets) = sym more ∙ is in
       let no : ⊥ = cc in
       absurd no
   by_row None e is = at (is_graphic byte) is
     where
-      at : (graphic : Bool) → cond graphic (gl_front sets byte (non_pdi_code (set_at sets sets.gl) byte)) (refused EighthBit 0) ≡ complete (codes.Op op) 1 sets →
-          set_at sets sets.gl ≡ code_sets.Pdi
+      at : (graphic : Bool) → cond graphic (gl_front sets byte (non_pdi_code (set_at sets sets.gl) byte)) (refused EighthBit 0) ≡ complete (Code.Op op) 1 sets →
+          set_at sets sets.gl ≡ CodeSet.Pdi
       at true is = by_set (set_at sets sets.gl) is
       at false is = let bad : ⊥ = cc in absurd bad
 
-  pub pdi_in_gl : front sets (byte ∷ []) ≡ complete (codes.Op op) 1 sets → set_at sets sets.gl ≡ code_sets.Pdi
+  pub pdi_in_gl : front sets (byte ∷ []) ≡ complete (Code.Op op) 1 sets → set_at sets sets.gl ≡ CodeSet.Pdi
   unfolding front
   pdi_in_gl is = by_row (row_of control0_rows byte) refl is
 
 -- a run of operand bytes where the PDI set is in GL
 
-operand_front : (sets : CodeSets) (b : ℕ) (bytes : List ℕ) → set_at sets sets.gl ≡ code_sets.Pdi → is_operand_byte b ≡ true →
-    front sets (b ∷ bytes) ≡ complete (codes.Operand (b - 64)) 1 sets
+operand_front : (sets : CodeSets) (b : ℕ) (bytes : List ℕ) → set_at sets sets.gl ≡ CodeSet.Pdi → is_operand_byte b ≡ true →
+    front sets (b ∷ bytes) ≡ complete (Code.Operand (b - 64)) 1 sets
 operand_front sets b bytes pdi is =
     let low : 64 ≤ b = grind (arith, nat_tests) in
     let high : b < 128 = grind (arith, nat_tests) in
-    (code_is_spelled sets (b ∷ bytes) (codes.Operand (b - 64)) 1 sets).1 (omega arith, spells.operand pdi low high)
+    (code_is_spelled sets (b ∷ bytes) (Code.Operand (b - 64)) 1 sets).1 (omega arith, spells.operand pdi low high)
 
 abbrev pub operands_of : List ℕ → List Code
-operands_of words = map codes.Operand words
+operands_of words = map Code.Operand words
 
 -- the first n bytes are operands
 abbrev pub Cut : CodeSets → List Placed → ℕ → Type 0
 Cut sets xs n = (lex_result sets (bytes_of xs)).codes ≡ operands_of (carried_words (take n xs)) ++ (lex_result sets (bytes_of (drop n xs))).codes
 
-pub run_codes : (sets : CodeSets) (xs : List Placed) → set_at sets sets.gl ≡ code_sets.Pdi → Cut sets xs (run_length xs)
+pub run_codes : (sets : CodeSets) (xs : List Placed) → set_at sets sets.gl ≡ CodeSet.Pdi → Cut sets xs (run_length xs)
 run_codes sets [] pdi = refl
 run_codes sets (x ∷ xs) pdi = at (is_operand x) refl (run_codes sets xs pdi)
   where
     at : (b : Bool) → is_operand x ≡ b → Cut sets xs (run_length xs) → Cut sets (x ∷ xs) (run_length (x ∷ xs))
     at true e ih =
         let there = lexed_front sets (bytes_of (x ∷ xs)) ∙ ap (lex_result_by lex_result sets (bytes_of (x ∷ xs))) (operand_front sets x.byte (bytes_of xs) pdi e) in
-        let here : Cut sets (x ∷ xs) (suc (run_length xs)) = ap (λ (l : LexResult). l.codes) there ∙ ap (λ (cs : List Code). codes.Operand (x.byte - 64) ∷ cs) ih in
+        let here : Cut sets (x ∷ xs) (suc (run_length xs)) = ap (λ (l : LexResult). l.codes) there ∙ ap (λ (cs : List Code). Code.Operand (x.byte - 64) ∷ cs) ih in
         let size : suc (run_length xs) ≡ run_length (x ∷ xs) = rw e (omega arith) in
         subst (Cut sets (x ∷ xs)) size here
     at false e ih =

@@ -3,10 +3,6 @@
 
 use Rattle.nap_canon.proofs.Common.{Bool, Colour, Components, Coordinates, Displacement, DrawFault, Drawing, Entry, Err, LastChar, List, None, Ok, Opcode, Option, Result, RuleResult, Some, State, Work, [], absolute_spans, after, and_then, arc_on, arc_points, area_of, at_least_one, at_most_limit, blink, blinks, char_on, code_rule, colour_of, complete_pairs, entries_result, entry_result, false, field_on, first_and_more, from_pen, is_known, map, map_rule, moves_of, one_entry_result, operands, option_and_then, option_map, pen_point, pen_result, point_at, point_entry, points_at, points_reached, poly_on, poly_points, polyline_spans, rect_chain_spans, rect_on, refl, relative_spans, repeated_chars, rule, rule_result, set_color_rule, set_color_under, shape_from_pen, shape_from_point, span_line_entry, suc, true, walk, with_drawing, with_last, with_operands, with_pairs, zero, ℕ, ⊤, ◌∙◌, ◌∷◌, ◌≡◌, ◌≢◌}
 use Rattle.nap_codes.specs.declared.code.Code.{Code}
-use Rattle.nap_codes.specs.declared.code.Code.TheVariants as codes
-use Rattle.nap_codes.specs.declared.opcode.Opcode.TheVariants as opcodes
-use Rattle.nap_list.specs.declared.attribute.Colour.TheVariants as colours
-use Rattle.nap_list.specs.declared.entry.Entry.TheVariants as entries
 
 pub record Keeps (work : Work) (d : RuleResult) : Type 0 where
   pub domain : d.work.domain ≡ work.domain
@@ -20,15 +16,15 @@ KeepsBy work (Err fault) = ⊤
 -- entries that belong to no definition
 
 abbrev IsInside : Entry → Type 0
-IsInside (entries.GlyphStart code) = ⊥
-IsInside (entries.MaskStart mask) = ⊥
-IsInside entries.DefEnd = ⊥
+IsInside (Entry.GlyphStart code) = ⊥
+IsInside (Entry.MaskStart mask) = ⊥
+IsInside Entry.DefEnd = ⊥
 IsInside _ = ⊤
 
 after_keeps : (s : State) (e : Entry) → IsInside e → (after s e).definition ≡ s.definition
-after_keeps s (entries.GlyphStart code) inside = absurd inside
-after_keeps s (entries.MaskStart mask) inside = absurd inside
-after_keeps s entries.DefEnd inside = absurd inside
+after_keeps s (Entry.GlyphStart code) inside = absurd inside
+after_keeps s (Entry.MaskStart mask) inside = absurd inside
+after_keeps s Entry.DefEnd inside = absurd inside
 after_keeps s _ inside = refl
 
 walk_keeps : {A : Type 0} (entry : A → Entry) → ((x : A) → IsInside (entry x)) → (s : State) (xs : List A) →
@@ -115,50 +111,50 @@ maps_keep work a grb = by (is_known a grb work.state.known) refl
 
 colours_keep : (work : Work) (colour : Colour) (grb : Components) → KeepsBy work (set_color_under work colour grb)
 unfolding walk
-colours_keep work (colours.Own origin) grb = record { domain = refl; saved = refl; definition = refl }
-colours_keep work (colours.Direct old) grb = record { domain = refl; saved = refl; definition = refl }
-colours_keep work (colours.Front a) grb = maps_keep work a grb
-colours_keep work (colours.Pair a b) grb = maps_keep work a grb
-colours_keep work (colours.ByReset preset) grb = tt
+colours_keep work (Colour.Own origin) grb = record { domain = refl; saved = refl; definition = refl }
+colours_keep work (Colour.Direct old) grb = record { domain = refl; saved = refl; definition = refl }
+colours_keep work (Colour.Front a) grb = maps_keep work a grb
+colours_keep work (Colour.Pair a b) grb = maps_keep work a grb
+colours_keep work (Colour.ByReset preset) grb = tt
 
 set_color_keeps : (work : Work) (operands : List (List ℕ)) → KeepsBy work (set_color_rule work operands)
 set_color_keeps work [] = tt
 set_color_keeps work (operand ∷ []) = colours_keep work work.state.drawing.colour (colour_of operand)
 set_color_keeps work (operand ∷ other ∷ more) = tt
 
-pub rule_keeps : (work : Work) (op : Opcode) (run : List ℕ) → op ≢ opcodes.Domain → op ≢ opcodes.Reset → KeepsBy work (rule work op run)
+pub rule_keeps : (work : Work) (op : Opcode) (run : List ℕ) → op ≢ Opcode.Domain → op ≢ Opcode.Reset → KeepsBy work (rule work op run)
 unfolding walk
-rule_keeps work opcodes.Domain run no_domain no_reset = absurd (no_domain refl)
-rule_keeps work opcodes.Reset run no_domain no_reset = absurd (no_reset refl)
-rule_keeps work opcodes.Text run no_domain no_reset = value_keeps work _
-rule_keeps work opcodes.Texture run no_domain no_reset = value_keeps work _
-rule_keeps work opcodes.PointSetAbs run no_domain no_reset = operands_keep work run _ (λ ms. goes_keep work (points_at ms))
-rule_keeps work opcodes.PointSetRel run no_domain no_reset = from_pen_keeps work run _ (λ p ms. goes_keep work (points_reached p ms))
-rule_keeps work opcodes.PointAbs run no_domain no_reset = operands_keep work run _ (λ ms. draws_keep work point_entry (λ x. tt) (points_at ms))
-rule_keeps work opcodes.PointRel run no_domain no_reset = from_pen_keeps work run _ (λ p ms. draws_keep work point_entry (λ x. tt) (points_reached p ms))
-rule_keeps work opcodes.LineAbs run no_domain no_reset = from_pen_keeps work run _ (λ p ms. draws_keep work span_line_entry (λ x. tt) (option_map (polyline_spans p) (points_at ms)))
-rule_keeps work opcodes.LineRel run no_domain no_reset = from_pen_keeps work run _ (λ p ms. draws_keep work span_line_entry (λ x. tt) (option_map (polyline_spans p) (points_reached p ms)))
-rule_keeps work opcodes.SetLineAbs run no_domain no_reset = pairs_keep work run _ (λ ms. draws_keep work span_line_entry (λ x. tt) (absolute_spans ms))
-rule_keeps work opcodes.SetLineRel run no_domain no_reset = pairs_keep work run _ (λ ms. draws_keep work span_line_entry (λ x. tt) (relative_spans ms))
-rule_keeps work opcodes.ArcOutlined run no_domain no_reset = from_pen_shape work run (arc_on false) arc_points (λ x. tt)
-rule_keeps work opcodes.ArcFilled run no_domain no_reset = from_pen_shape work run (arc_on true) arc_points (λ x. tt)
-rule_keeps work opcodes.SetArcOutlined run no_domain no_reset = from_point_shape work run (arc_on false) arc_points (λ x. tt)
-rule_keeps work opcodes.SetArcFilled run no_domain no_reset = from_point_shape work run (arc_on true) arc_points (λ x. tt)
-rule_keeps work opcodes.RectOutlined run no_domain no_reset = from_pen_keeps work run _ (λ p ms. draws_keep work (rect_on false) (λ x. tt) (rect_chain_spans p ms))
-rule_keeps work opcodes.RectFilled run no_domain no_reset = from_pen_keeps work run _ (λ p ms. draws_keep work (rect_on true) (λ x. tt) (rect_chain_spans p ms))
-rule_keeps work opcodes.SetRectOutlined run no_domain no_reset = pairs_keep work run _ (λ ms. draws_keep work (rect_on false) (λ x. tt) (relative_spans ms))
-rule_keeps work opcodes.SetRectFilled run no_domain no_reset = pairs_keep work run _ (λ ms. draws_keep work (rect_on true) (λ x. tt) (relative_spans ms))
-rule_keeps work opcodes.PolyOutlined run no_domain no_reset = from_pen_shape work run (poly_on false) poly_points (λ x. tt)
-rule_keeps work opcodes.PolyFilled run no_domain no_reset = from_pen_shape work run (poly_on true) poly_points (λ x. tt)
-rule_keeps work opcodes.SetPolyOutlined run no_domain no_reset = from_point_shape work run (poly_on false) poly_points (λ x. tt)
-rule_keeps work opcodes.SetPolyFilled run no_domain no_reset = from_point_shape work run (poly_on true) poly_points (λ x. tt)
-rule_keeps work opcodes.Field run no_domain no_reset =
+rule_keeps work Opcode.Domain run no_domain no_reset = absurd (no_domain refl)
+rule_keeps work Opcode.Reset run no_domain no_reset = absurd (no_reset refl)
+rule_keeps work Opcode.Text run no_domain no_reset = value_keeps work _
+rule_keeps work Opcode.Texture run no_domain no_reset = value_keeps work _
+rule_keeps work Opcode.PointSetAbs run no_domain no_reset = operands_keep work run _ (λ ms. goes_keep work (points_at ms))
+rule_keeps work Opcode.PointSetRel run no_domain no_reset = from_pen_keeps work run _ (λ p ms. goes_keep work (points_reached p ms))
+rule_keeps work Opcode.PointAbs run no_domain no_reset = operands_keep work run _ (λ ms. draws_keep work point_entry (λ x. tt) (points_at ms))
+rule_keeps work Opcode.PointRel run no_domain no_reset = from_pen_keeps work run _ (λ p ms. draws_keep work point_entry (λ x. tt) (points_reached p ms))
+rule_keeps work Opcode.LineAbs run no_domain no_reset = from_pen_keeps work run _ (λ p ms. draws_keep work span_line_entry (λ x. tt) (option_map (polyline_spans p) (points_at ms)))
+rule_keeps work Opcode.LineRel run no_domain no_reset = from_pen_keeps work run _ (λ p ms. draws_keep work span_line_entry (λ x. tt) (option_map (polyline_spans p) (points_reached p ms)))
+rule_keeps work Opcode.SetLineAbs run no_domain no_reset = pairs_keep work run _ (λ ms. draws_keep work span_line_entry (λ x. tt) (absolute_spans ms))
+rule_keeps work Opcode.SetLineRel run no_domain no_reset = pairs_keep work run _ (λ ms. draws_keep work span_line_entry (λ x. tt) (relative_spans ms))
+rule_keeps work Opcode.ArcOutlined run no_domain no_reset = from_pen_shape work run (arc_on false) arc_points (λ x. tt)
+rule_keeps work Opcode.ArcFilled run no_domain no_reset = from_pen_shape work run (arc_on true) arc_points (λ x. tt)
+rule_keeps work Opcode.SetArcOutlined run no_domain no_reset = from_point_shape work run (arc_on false) arc_points (λ x. tt)
+rule_keeps work Opcode.SetArcFilled run no_domain no_reset = from_point_shape work run (arc_on true) arc_points (λ x. tt)
+rule_keeps work Opcode.RectOutlined run no_domain no_reset = from_pen_keeps work run _ (λ p ms. draws_keep work (rect_on false) (λ x. tt) (rect_chain_spans p ms))
+rule_keeps work Opcode.RectFilled run no_domain no_reset = from_pen_keeps work run _ (λ p ms. draws_keep work (rect_on true) (λ x. tt) (rect_chain_spans p ms))
+rule_keeps work Opcode.SetRectOutlined run no_domain no_reset = pairs_keep work run _ (λ ms. draws_keep work (rect_on false) (λ x. tt) (relative_spans ms))
+rule_keeps work Opcode.SetRectFilled run no_domain no_reset = pairs_keep work run _ (λ ms. draws_keep work (rect_on true) (λ x. tt) (relative_spans ms))
+rule_keeps work Opcode.PolyOutlined run no_domain no_reset = from_pen_shape work run (poly_on false) poly_points (λ x. tt)
+rule_keeps work Opcode.PolyFilled run no_domain no_reset = from_pen_shape work run (poly_on true) poly_points (λ x. tt)
+rule_keeps work Opcode.SetPolyOutlined run no_domain no_reset = from_point_shape work run (poly_on false) poly_points (λ x. tt)
+rule_keeps work Opcode.SetPolyFilled run no_domain no_reset = from_point_shape work run (poly_on true) poly_points (λ x. tt)
+rule_keeps work Opcode.Field run no_domain no_reset =
     by_keeps work (area_of work (moves_of work run)) _ (λ area. draws_one_keeps work field_on (λ x. tt) (Some area))
-rule_keeps work opcodes.SetColor run no_domain no_reset = set_color_keeps work (operands work.domain.multi run)
-rule_keeps work opcodes.Wait run no_domain no_reset =
-    record { domain = refl; saved = refl; definition = walk_keeps entries.Wait (λ word. tt) work.state run }
-rule_keeps work opcodes.SelectColor run no_domain no_reset = value_keeps work _
-rule_keeps work opcodes.Blink run no_domain no_reset = blinks_keep work work.domain.single work.state.drawing.colour _
+rule_keeps work Opcode.SetColor run no_domain no_reset = set_color_keeps work (operands work.domain.multi run)
+rule_keeps work Opcode.Wait run no_domain no_reset =
+    record { domain = refl; saved = refl; definition = walk_keeps Entry.Wait (λ word. tt) work.state run }
+rule_keeps work Opcode.SelectColor run no_domain no_reset = value_keeps work _
+rule_keeps work Opcode.Blink run no_domain no_reset = blinks_keep work work.domain.single work.state.drawing.colour _
 rule_keeps work _ run no_domain no_reset = record { domain = refl; saved = refl; definition = refl }
 
 -- characters and controls
@@ -169,25 +165,25 @@ last_keeps work None next each = tt
 last_keeps work (Some last) next each = each last
 
 abbrev pub HasNoDefinition : Code → Type 0
-HasNoDefinition (codes.DefMacro name show) = ⊥
-HasNoDefinition (codes.DefGlyph byte) = ⊥
-HasNoDefinition (codes.DefMask mask) = ⊥
-HasNoDefinition codes.End = ⊥
+HasNoDefinition (Code.DefMacro name show) = ⊥
+HasNoDefinition (Code.DefGlyph byte) = ⊥
+HasNoDefinition (Code.DefMask mask) = ⊥
+HasNoDefinition Code.End = ⊥
 HasNoDefinition _ = ⊤
 
 pub code_keeps : (work : Work) (code : Code) → HasNoDefinition code → KeepsBy work (code_rule work code)
 unfolding walk
-code_keeps work (codes.DefMacro name show) none = absurd none
-code_keeps work (codes.DefGlyph byte) none = absurd none
-code_keeps work (codes.DefMask mask) none = absurd none
-code_keeps work codes.End none = absurd none
-code_keeps work (codes.Char set code) none = puts_keep work _ tt
-code_keeps work (codes.Step step) none = puts_keep work _ tt
-code_keeps work codes.Clear none = puts_keep work _ tt
-code_keeps work codes.Bell none = puts_keep work _ tt
-code_keeps work (codes.Repeat count) none =
+code_keeps work (Code.DefMacro name show) none = absurd none
+code_keeps work (Code.DefGlyph byte) none = absurd none
+code_keeps work (Code.DefMask mask) none = absurd none
+code_keeps work Code.End none = absurd none
+code_keeps work (Code.Char set code) none = puts_keep work _ tt
+code_keeps work (Code.Step step) none = puts_keep work _ tt
+code_keeps work Code.Clear none = puts_keep work _ tt
+code_keeps work Code.Bell none = puts_keep work _ tt
+code_keeps work (Code.Repeat count) none =
     last_keeps work work.state.last _ (λ last. record { domain = refl; saved = refl; definition = copies_keep work.state last count })
-code_keeps work codes.ToEol none = last_keeps work work.state.last _ (λ last. puts_keep work _ tt)
-code_keeps work (codes.BlinkMark on) none = puts_keep work _ tt
-code_keeps work (codes.Cursor kind) none = puts_keep work _ tt
+code_keeps work Code.ToEol none = last_keeps work work.state.last _ (λ last. puts_keep work _ tt)
+code_keeps work (Code.BlinkMark on) none = puts_keep work _ tt
+code_keeps work (Code.Cursor kind) none = puts_keep work _ tt
 code_keeps work _ none = record { domain = refl; saved = refl; definition = refl }

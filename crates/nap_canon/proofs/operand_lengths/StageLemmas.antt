@@ -2,9 +2,6 @@
 
 use Rattle.nap_canon.proofs.Common.{All, All-head, All-tail, Bool, DomainFirst, DomainNext, DrawFault, Entry, Err, IsNoOpcode, LengthsNext, List, MayFollowCode, None, Ok, Opcode, OpenDefinition, OperandLengths, Option, ResetNext, Result, RuleResult, Some, Work, [], arith, code_rule, cond, definition_ended, definition_ended_by, definition_opened, domain_rule, false, inl, inr, nat_tests, refl, rule, rule_result, start_domain, subst, sym, true, walk, with_domain, ℕ, ⊤, ◌%◌, ◌++◌, ◌==◌, ◌∙◌, ◌∷◌, ◌≡◌, ◌≢◌, ◌⊎◌}
 use Rattle.nap_codes.specs.declared.code.Code.{Code}
-use Rattle.nap_codes.specs.declared.code.Code.TheVariants as codes
-use Rattle.nap_codes.specs.declared.opcode.Opcode.TheVariants as opcodes
-use Rattle.nap_list.specs.declared.entry.Entry.TheVariants as entries
 use Rattle.nap_canon.proofs.operand_lengths.FrontCodes.{operands_of}
 use Rattle.nap_canon.proofs.operand_lengths.KeepingLemmas.{KeepsBy, rule_keeps, code_keeps}
 
@@ -28,15 +25,15 @@ pub data Stage (work : Work) (list : List Code) : Type 0 where
 
 -- an opcode that acts
 
-domain_alone : (op : Opcode) (list : List Code) → DomainNext (codes.Op op ∷ list) → op ≡ opcodes.Domain
+domain_alone : (op : Opcode) (list : List Code) → DomainNext (Code.Op op ∷ list) → op ≡ Opcode.Domain
 unfolding DomainNext
-domain_alone opcodes.Domain list next = refl
+domain_alone Opcode.Domain list next = refl
 domain_alone _ list next = absurd next
 
-pub lengths_are_current : (work : Work) (op : Opcode) (list : List Code) → Stage work (codes.Op op ∷ list) → op ≢ opcodes.Domain → work.domain ≡ eight_and_four
+pub lengths_are_current : (work : Work) (op : Opcode) (list : List Code) → Stage work (Code.Op op ∷ list) → op ≢ Opcode.Domain → work.domain ≡ eight_and_four
 unfolding DomainFirst
 lengths_are_current work op list (before closed first) no_domain = absurd (no_domain first)
-lengths_are_current work op list (defining none) no_domain = absurd (All-head IsNoOpcode (codes.Op op) list none)
+lengths_are_current work op list (defining none) no_domain = absurd (All-head IsNoOpcode (Code.Op op) list none)
 lengths_are_current work op list (after_domain (inl is) back) no_domain = is
 lengths_are_current work op list (after_domain (inr next) back) no_domain = absurd (no_domain (domain_alone op list next))
 
@@ -60,9 +57,9 @@ domain_stage work (word ∷ words) rest d by next back =
     let is : rule_result (with_domain work eight_and_four words) [] ≡ d = domain_drawn work word words d next by in
     subst (λ (x : RuleResult). Stage x.work rest) is (after_domain (inl refl) (comes_back work (rule_result (with_domain work eight_and_four words) []).work refl refl back))
 
-before_domain : (work : Work) (op : Opcode) (list : List Code) → Stage work (codes.Op op ∷ list) → ComesBack work
+before_domain : (work : Work) (op : Opcode) (list : List Code) → Stage work (Code.Op op ∷ list) → ComesBack work
 before_domain work op list (before closed first) = inr closed
-before_domain work op list (defining none) = absurd (All-head IsNoOpcode (codes.Op op) list none)
+before_domain work op list (defining none) = absurd (All-head IsNoOpcode (Code.Op op) list none)
 before_domain work op list (after_domain lengths back) = back
 
 -- RESET
@@ -86,7 +83,7 @@ StageBy (Ok d) rest = Stage d.work rest
 StageBy (Err fault) rest = ⊤
 
 reset_stage : (work : Work) (run : List ℕ) (rest : List Code) → work.domain ≡ eight_and_four → ResetNext (operands_of run ++ rest) → ComesBack work →
-    StageBy (rule work opcodes.Reset run) rest
+    StageBy (rule work Opcode.Reset run) rest
 unfolding walk
 reset_stage work [] rest domain_set next back = after_domain (inl domain_set) back
 reset_stage work (word ∷ words) rest domain_set next back =
@@ -95,13 +92,13 @@ reset_stage work (word ∷ words) rest domain_set next back =
 -- any opcode
 
 pub data OpcodeKind (op : Opcode) : Type 0 where
-  is_domain : op ≡ opcodes.Domain → OpcodeKind op
-  is_reset : op ≡ opcodes.Reset → OpcodeKind op
-  is_other : op ≢ opcodes.Domain → op ≢ opcodes.Reset → OpcodeKind op
+  is_domain : op ≡ Opcode.Domain → OpcodeKind op
+  is_reset : op ≡ Opcode.Reset → OpcodeKind op
+  is_other : op ≢ Opcode.Domain → op ≢ Opcode.Reset → OpcodeKind op
 
 opcode_kind : (op : Opcode) → OpcodeKind op
-opcode_kind opcodes.Domain = is_domain refl
-opcode_kind opcodes.Reset = is_reset refl
+opcode_kind Opcode.Domain = is_domain refl
+opcode_kind Opcode.Reset = is_reset refl
 opcode_kind _ = is_other (λ e. let bad : ⊥ = cc in bad) (λ e. let bad : ⊥ = cc in bad)
 
 kept_stage : (work : Work) (by : Result RuleResult DrawFault) (rest : List Code) → KeepsBy work by → work.domain ≡ eight_and_four → ComesBack work → StageBy by rest
@@ -113,23 +110,23 @@ domain_by : (work : Work) (run : List ℕ) (by : Result RuleResult DrawFault) (r
 domain_by work run (Ok d) rest e next back = domain_stage work run rest d e next back
 domain_by work run (Err fault) rest e next back = tt
 
-opcode_by : (work : Work) (op : Opcode) (run : List ℕ) (rest : List Code) → Stage work (codes.Op op ∷ operands_of run ++ rest) →
-    MayFollowCode (codes.Op op) (operands_of run ++ rest) → OpcodeKind op → StageBy (rule work op run) rest
+opcode_by : (work : Work) (op : Opcode) (run : List ℕ) (rest : List Code) → Stage work (Code.Op op ∷ operands_of run ++ rest) →
+    MayFollowCode (Code.Op op) (operands_of run ++ rest) → OpcodeKind op → StageBy (rule work op run) rest
 opcode_by work op run rest stage comes (is_domain is) =
     let back = before_domain work op (operands_of run ++ rest) stage in
-    let next : LengthsNext (operands_of run ++ rest) = subst (λ (o : Opcode). MayFollowCode (codes.Op o) (operands_of run ++ rest)) is comes in
+    let next : LengthsNext (operands_of run ++ rest) = subst (λ (o : Opcode). MayFollowCode (Code.Op o) (operands_of run ++ rest)) is comes in
     subst (λ (o : Opcode). StageBy (rule work o run) rest) (sym is) (domain_by work run (domain_rule work run) rest refl next back)
 opcode_by work op run rest stage comes (is_reset is) =
     let back = before_domain work op (operands_of run ++ rest) stage in
     let domain_set = lengths_are_current work op (operands_of run ++ rest) stage (λ e. let bad : ⊥ = cc in bad) in
-    let next : ResetNext (operands_of run ++ rest) = subst (λ (o : Opcode). MayFollowCode (codes.Op o) (operands_of run ++ rest)) is comes in
+    let next : ResetNext (operands_of run ++ rest) = subst (λ (o : Opcode). MayFollowCode (Code.Op o) (operands_of run ++ rest)) is comes in
     subst (λ (o : Opcode). StageBy (rule work o run) rest) (sym is) (reset_stage work run rest domain_set next back)
 opcode_by work op run rest stage comes (is_other no_domain no_reset) =
     kept_stage work (rule work op run) rest (rule_keeps work op run no_domain no_reset)
     (lengths_are_current work op (operands_of run ++ rest) stage no_domain) (before_domain work op (operands_of run ++ rest) stage)
 
 pub opcode_stage : (work : Work) (op : Opcode) (run : List ℕ) (rest : List Code) (d : RuleResult) → rule work op run ≡ Ok d →
-    Stage work (codes.Op op ∷ operands_of run ++ rest) → MayFollowCode (codes.Op op) (operands_of run ++ rest) → Stage d.work rest
+    Stage work (Code.Op op ∷ operands_of run ++ rest) → MayFollowCode (Code.Op op) (operands_of run ++ rest) → Stage d.work rest
 opcode_stage work op run rest d by stage comes =
     subst (λ (r : Result RuleResult DrawFault). StageBy r rest) by (opcode_by work op run rest stage comes (opcode_kind op))
 
@@ -137,28 +134,28 @@ opcode_stage work op run rest d by stage comes =
 
 -- the code opens and ends no definition, and is no operand
 abbrev pub IsQuiet : Code → Type 0
-IsQuiet (codes.Op op) = ⊥
-IsQuiet (codes.Operand word) = ⊥
-IsQuiet (codes.DefMacro name show) = ⊥
-IsQuiet (codes.DefGlyph byte) = ⊥
-IsQuiet (codes.DefMask mask) = ⊥
-IsQuiet codes.End = ⊥
+IsQuiet (Code.Op op) = ⊥
+IsQuiet (Code.Operand word) = ⊥
+IsQuiet (Code.DefMacro name show) = ⊥
+IsQuiet (Code.DefGlyph byte) = ⊥
+IsQuiet (Code.DefMask mask) = ⊥
+IsQuiet Code.End = ⊥
 IsQuiet _ = ⊤
 
 first_after : (c : Code) (rest : List Code) → IsQuiet c → DomainFirst (c ∷ rest) → DomainFirst rest
 unfolding DomainFirst
-first_after (codes.Op op) rest quiet first = absurd quiet
-first_after (codes.Operand word) rest quiet first = absurd quiet
-first_after (codes.DefMacro name show) rest quiet first = absurd quiet
-first_after (codes.DefGlyph byte) rest quiet first = absurd quiet
-first_after (codes.DefMask mask) rest quiet first = absurd quiet
-first_after codes.End rest quiet first = absurd quiet
+first_after (Code.Op op) rest quiet first = absurd quiet
+first_after (Code.Operand word) rest quiet first = absurd quiet
+first_after (Code.DefMacro name show) rest quiet first = absurd quiet
+first_after (Code.DefGlyph byte) rest quiet first = absurd quiet
+first_after (Code.DefMask mask) rest quiet first = absurd quiet
+first_after Code.End rest quiet first = absurd quiet
 first_after _ rest quiet first = first
 
 no_domain_next : (c : Code) (rest : List Code) → IsQuiet c → DomainNext (c ∷ rest) → ⊥
 unfolding DomainNext
-no_domain_next (codes.Op op) rest quiet next = quiet
-no_domain_next (codes.Operand word) rest quiet next = quiet
+no_domain_next (Code.Op op) rest quiet next = quiet
+no_domain_next (Code.Operand word) rest quiet next = quiet
 no_domain_next _ rest quiet next = next
 
 pub quiet_stage : (work w : Work) (c : Code) (rest : List Code) → IsQuiet c → w.domain ≡ work.domain → w.saved ≡ work.saved →
@@ -196,10 +193,10 @@ opens_stage work c rest e first_none next_none (after_domain (inl is) back) =
     after_domain (inl domain_set) (inl domain_set)
 opens_stage work c rest e first_none next_none (after_domain (inr next) back) = absurd (next_none next)
 
-pub end_stage : (work : Work) (rest : List Code) → Stage work (codes.End ∷ rest) → Stage (definition_ended work).work rest
+pub end_stage : (work : Work) (rest : List Code) → Stage work (Code.End ∷ rest) → Stage (definition_ended work).work rest
 unfolding DomainFirst DomainNext
 end_stage work rest (before closed first) = before (ended_closed work work.state.definition refl) first
-end_stage work rest (defining none) = defining (All-tail IsNoOpcode codes.End rest none)
+end_stage work rest (defining none) = defining (All-tail IsNoOpcode Code.End rest none)
 end_stage work rest (after_domain (inl is) back) =
     after_domain (inl (ended_lengths work work.state.definition refl is back)) (ended_back work work.state.definition refl back)
 end_stage work rest (after_domain (inr next) back) = absurd next
@@ -210,22 +207,22 @@ quiet_by work c rest (Err fault) quiet keeps stage = tt
 
 -- no opcode, no operand, and no start of a macro
 abbrev pub IsActing : Code → Type 0
-IsActing (codes.Op op) = ⊥
-IsActing (codes.Operand word) = ⊥
-IsActing (codes.DefMacro name show) = ⊥
+IsActing (Code.Op op) = ⊥
+IsActing (Code.Operand word) = ⊥
+IsActing (Code.DefMacro name show) = ⊥
 IsActing _ = ⊤
 
 -- a code that acts by its rule
 code_by : (work : Work) (c : Code) (rest : List Code) → IsActing c → Stage work (c ∷ rest) → StageBy (code_rule work c) rest
 unfolding DomainFirst DomainNext
-code_by work (codes.Op op) rest acting stage = absurd acting
-code_by work (codes.Operand word) rest acting stage = absurd acting
-code_by work (codes.DefMacro name show) rest acting stage = absurd acting
-code_by work (codes.DefGlyph byte) rest acting stage =
-    opens_stage work (codes.DefGlyph byte) rest (entries.GlyphStart byte) (λ first. first) (λ next. next) stage
-code_by work (codes.DefMask mask) rest acting stage =
-    opens_stage work (codes.DefMask mask) rest (entries.MaskStart mask) (λ first. first) (λ next. next) stage
-code_by work codes.End rest acting stage = end_stage work rest stage
+code_by work (Code.Op op) rest acting stage = absurd acting
+code_by work (Code.Operand word) rest acting stage = absurd acting
+code_by work (Code.DefMacro name show) rest acting stage = absurd acting
+code_by work (Code.DefGlyph byte) rest acting stage =
+    opens_stage work (Code.DefGlyph byte) rest (Entry.GlyphStart byte) (λ first. first) (λ next. next) stage
+code_by work (Code.DefMask mask) rest acting stage =
+    opens_stage work (Code.DefMask mask) rest (Entry.MaskStart mask) (λ first. first) (λ next. next) stage
+code_by work Code.End rest acting stage = end_stage work rest stage
 code_by work c rest acting stage = quiet_by work c rest (code_rule work c) tt (code_keeps work c tt) stage
 
 pub code_stage : (work : Work) (c : Code) (rest : List Code) (d : RuleResult) → code_rule work c ≡ Ok d → IsActing c → Stage work (c ∷ rest) → Stage d.work rest

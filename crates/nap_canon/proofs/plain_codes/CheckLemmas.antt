@@ -1,25 +1,20 @@
 -- The rules of plain streams that a check still has for the codes to come.
 
-use Rattle.nap_canon.proofs.Common.{All, All-cons, All-head, All-nil, All-tail, AllMayFollow, ArePlain, Bool, CodesSeen, DomainFirst, DomainNext, Expected, IsNoOpcode, IsPlainCode, LengthsNext, List, MayFollowCode, None, Option, PlainCheck, ResetNext, Some, [], arith, check_after, check_of_parts, cond, expected_after, expected_after_any, false, is_plain_code, lengths_word, may_end, may_end_at, nat_tests, refl, reset_word, seen_after, true, ℕ, ⊤, ◌%◌, ◌==◌, ◌↔◌, ◌∷◌, ◌≡◌}
+use Rattle.nap_canon.proofs.Common.{All, All-cons, All-head, All-nil, All-tail, AllMayFollow, ArePlain, Bool, CodeSet, CodesSeen, DomainFirst, DomainNext, Expected, IsNoOpcode, IsPlainCode, LengthsNext, List, MayFollowCode, None, Opcode, Option, PlainCheck, ResetNext, Some, [], arith, check_after, check_of_parts, cond, expected_after, expected_after_any, false, is_plain_code, lengths_word, may_end, may_end_at, nat_tests, refl, reset_word, seen_after, true, ℕ, ⊤, ◌%◌, ◌==◌, ◌↔◌, ◌∷◌, ◌≡◌}
 use Rattle.nap_codes.specs.declared.code.Code.{Code}
-use Rattle.nap_codes.specs.declared.code.Code.TheVariants as codes
-use Rattle.nap_codes.specs.declared.code_set.CodeSet.TheVariants as code_sets
-use Rattle.nap_codes.specs.declared.opcode.Opcode.TheVariants as opcodes
-use Rattle.nap_canon.specs.declared.plain.CodesSeen.TheVariants as begun
-use Rattle.nap_canon.specs.declared.plain.Expected.TheVariants as next
 
 -- the rule of the first opcode
 abbrev AsksFirst : CodesSeen → List Code → Type 0
-AsksFirst begun.Nothing rest = DomainFirst rest
-AsksFirst begun.Definition rest = All IsNoOpcode rest
-AsksFirst begun.Drawing rest = ⊤
+AsksFirst CodesSeen.Nothing rest = DomainFirst rest
+AsksFirst CodesSeen.Definition rest = All IsNoOpcode rest
+AsksFirst CodesSeen.Drawing rest = ⊤
 
 -- the rule of the next code
 abbrev AsksNext : Expected → List Code → Type 0
-AsksNext next.Any rest = ⊤
-AsksNext next.Lengths rest = LengthsNext rest
-AsksNext next.ResetWord rest = ResetNext rest
-AsksNext next.Domain rest = DomainNext rest
+AsksNext Expected.Any rest = ⊤
+AsksNext Expected.Lengths rest = LengthsNext rest
+AsksNext Expected.ResetWord rest = ResetNext rest
+AsksNext Expected.Domain rest = DomainNext rest
 
 abbrev AsksFollowing : Expected → List Code → Type 0
 AsksFollowing n rest = AsksNext n rest × AllMayFollow rest
@@ -43,64 +38,64 @@ IsDecided code true = IsPlainCode code
 IsDecided code false = IsPlainCode code → ⊥
 
 plain_decided : (code : Code) → IsDecided code (is_plain_code code)
-plain_decided (codes.DefMacro name show) = λ h. h
-plain_decided (codes.Designated number code_sets.Macros) = λ h. h
-plain_decided (codes.Op opcodes.PointSetRel) = λ h. h
-plain_decided (codes.Op opcodes.PointRel) = λ h. h
-plain_decided (codes.Op opcodes.LineRel) = λ h. h
-plain_decided (codes.Op opcodes.SetLineRel) = λ h. h
+plain_decided (Code.DefMacro name show) = λ h. h
+plain_decided (Code.Designated number CodeSet.Macros) = λ h. h
+plain_decided (Code.Op Opcode.PointSetRel) = λ h. h
+plain_decided (Code.Op Opcode.PointRel) = λ h. h
+plain_decided (Code.Op Opcode.LineRel) = λ h. h
+plain_decided (Code.Op Opcode.SetLineRel) = λ h. h
 plain_decided _ = tt
 
 -- the first opcode
 
 first_turns : (b : CodesSeen) (code : Code) → Turns AsksFirst b code (seen_after b code)
 unfolding DomainFirst
-first_turns begun.Nothing (codes.Op opcodes.Domain) = λ rest. (λ h. tt, λ h. refl)
-first_turns begun.Nothing (codes.Op _) = λ rest is. let bad : ⊥ = cc in bad
-first_turns begun.Nothing (codes.DefGlyph byte) = λ rest. (λ h. h, λ h. h)
-first_turns begun.Nothing (codes.DefMask mask) = λ rest. (λ h. h, λ h. h)
-first_turns begun.Nothing _ = λ rest. (λ h. h, λ h. h)
-first_turns begun.Definition (codes.Op op) = λ rest h. All-head IsNoOpcode (codes.Op op) rest h
-first_turns begun.Definition code = λ rest. (λ h. All-tail IsNoOpcode code rest h, λ h. All-cons IsNoOpcode code rest tt h)
-first_turns begun.Drawing code = λ rest. (λ h. tt, λ h. tt)
+first_turns CodesSeen.Nothing (Code.Op Opcode.Domain) = λ rest. (λ h. tt, λ h. refl)
+first_turns CodesSeen.Nothing (Code.Op _) = λ rest is. let bad : ⊥ = cc in bad
+first_turns CodesSeen.Nothing (Code.DefGlyph byte) = λ rest. (λ h. h, λ h. h)
+first_turns CodesSeen.Nothing (Code.DefMask mask) = λ rest. (λ h. h, λ h. h)
+first_turns CodesSeen.Nothing _ = λ rest. (λ h. h, λ h. h)
+first_turns CodesSeen.Definition (Code.Op op) = λ rest h. All-head IsNoOpcode (Code.Op op) rest h
+first_turns CodesSeen.Definition code = λ rest. (λ h. All-tail IsNoOpcode code rest h, λ h. All-cons IsNoOpcode code rest tt h)
+first_turns CodesSeen.Drawing code = λ rest. (λ h. tt, λ h. tt)
 
 -- the next code
 
 comes : (code : Code) (rest : List Code) → MayFollowCode code rest ↔ AsksNext (expected_after_any code) rest
-comes (codes.Op opcodes.Domain) rest = (λ h. h, λ h. h)
-comes (codes.Op opcodes.Reset) rest = (λ h. h, λ h. h)
+comes (Code.Op Opcode.Domain) rest = (λ h. h, λ h. h)
+comes (Code.Op Opcode.Reset) rest = (λ h. h, λ h. h)
 comes _ rest = (λ h. tt, λ h. tt)
 
 any_turns : (code : Code) (rest : List Code) → AllMayFollow (code ∷ rest) ↔ AsksFollowing (expected_after_any code) rest
 unfolding AllMayFollow
 any_turns code rest = (λ h. ((comes code rest).0 h.0, h.1), λ h. ((comes code rest).1 h.0, h.1))
 
-lengths_turn : (word : ℕ) → Turns AsksFollowing next.Lengths (codes.Operand word) (lengths_word word)
+lengths_turn : (word : ℕ) → Turns AsksFollowing Expected.Lengths (Code.Operand word) (lengths_word word)
 unfolding AllMayFollow
 lengths_turn word = at (word == 31) refl
   where
-    at : (same : Bool) → (word == 31) ≡ same → Turns AsksFollowing next.Lengths (codes.Operand word) (cond same (Some next.Any) None)
+    at : (same : Bool) → (word == 31) ≡ same → Turns AsksFollowing Expected.Lengths (Code.Operand word) (cond same (Some Expected.Any) None)
     at true e = λ rest. (λ h. (tt, h.1.1), λ h. (grind (arith, nat_tests), (tt, h.1)))
     at false e = λ rest h. let is : word ≡ 31 = h.0 in let bad : ⊥ = grind (arith, nat_tests) in bad
 
-reset_turns : (word : ℕ) → Turns AsksFollowing next.ResetWord (codes.Operand word) (Some (reset_word word))
+reset_turns : (word : ℕ) → Turns AsksFollowing Expected.ResetWord (Code.Operand word) (Some (reset_word word))
 unfolding AllMayFollow
 reset_turns word = at (word % 2 == 1) refl
   where
-    at : (odd : Bool) → (word % 2 == 1) ≡ odd → Turns AsksFollowing next.ResetWord (codes.Operand word) (Some (cond odd next.Domain next.Any))
+    at : (odd : Bool) → (word % 2 == 1) ≡ odd → Turns AsksFollowing Expected.ResetWord (Code.Operand word) (Some (cond odd Expected.Domain Expected.Any))
     at true e = λ rest. (λ h. (h.0 (grind (arith, nat_tests)), h.1.1), λ h. (λ is. h.0, (tt, h.1)))
     at false e = λ rest. (λ h. (tt, h.1.1), λ h. (λ is. let bad : ⊥ = grind (arith, nat_tests) in absurd bad, (tt, h.1)))
 
 next_turns : (n : Expected) (code : Code) → Turns AsksFollowing n code (expected_after n code)
 unfolding AllMayFollow DomainNext
-next_turns next.Any code = λ rest. (λ h. (any_turns code rest).0 h.1, λ h. (tt, (any_turns code rest).1 h))
-next_turns next.Lengths (codes.Operand word) = lengths_turn word
-next_turns next.Lengths _ = λ rest h. h.0
-next_turns next.ResetWord (codes.Operand word) = reset_turns word
-next_turns next.ResetWord code = λ rest. (λ h. (any_turns code rest).0 h.1, λ h. (tt, (any_turns code rest).1 h))
-next_turns next.Domain (codes.Operand word) = λ rest. (λ h. (h.0, h.1.1), λ h. (h.0, (tt, h.1)))
-next_turns next.Domain (codes.Op opcodes.Domain) = λ rest. (λ h. h.1, λ h. (tt, h))
-next_turns next.Domain _ = λ rest h. h.0
+next_turns Expected.Any code = λ rest. (λ h. (any_turns code rest).0 h.1, λ h. (tt, (any_turns code rest).1 h))
+next_turns Expected.Lengths (Code.Operand word) = lengths_turn word
+next_turns Expected.Lengths _ = λ rest h. h.0
+next_turns Expected.ResetWord (Code.Operand word) = reset_turns word
+next_turns Expected.ResetWord code = λ rest. (λ h. (any_turns code rest).0 h.1, λ h. (tt, (any_turns code rest).1 h))
+next_turns Expected.Domain (Code.Operand word) = λ rest. (λ h. (h.0, h.1.1), λ h. (h.0, (tt, h.1)))
+next_turns Expected.Domain (Code.Op Opcode.Domain) = λ rest. (λ h. h.1, λ h. (tt, h))
+next_turns Expected.Domain _ = λ rest h. h.0
 
 -- all rules together
 
@@ -133,7 +128,7 @@ check_turns check code =
 -- at the start
 
 abbrev pub start_check : PlainCheck
-start_check = record { begun = begun.Nothing; next = next.Any }
+start_check = record { begun = CodesSeen.Nothing; next = Expected.Any }
 
 pub all_asked : (list : List Code) → ArePlain list ↔ Asks start_check list
 all_asked list = (
@@ -145,9 +140,9 @@ all_asked list = (
 
 first_met : (b : CodesSeen) → AsksFirst b []
 unfolding DomainFirst
-first_met begun.Nothing = tt
-first_met begun.Definition = All-nil IsNoOpcode
-first_met begun.Drawing = tt
+first_met CodesSeen.Nothing = tt
+first_met CodesSeen.Definition = All-nil IsNoOpcode
+first_met CodesSeen.Drawing = tt
 
 abbrev IsMet : Expected → Bool → Type 0
 IsMet n true = AsksNext n []
@@ -155,10 +150,10 @@ IsMet n false = AsksNext n [] → ⊥
 
 next_met : (n : Expected) → IsMet n (may_end_at n)
 unfolding DomainNext
-next_met next.Any = tt
-next_met next.ResetWord = tt
-next_met next.Lengths = λ h. h
-next_met next.Domain = λ h. h
+next_met Expected.Any = tt
+next_met Expected.ResetWord = tt
+next_met Expected.Lengths = λ h. h
+next_met Expected.Domain = λ h. h
 
 end_met : (check : PlainCheck) (met : Bool) → IsMet check.next met → (met ≡ true) ↔ Asks check []
 unfolding AllMayFollow

@@ -1,8 +1,7 @@
 -- A stream that is lexed byte after byte, while its codes are checked.
 
-use Rattle.nap_canon.proofs.Common.{ArePlain, Bool, CodeFault, CodeSets, Front, IsPlain, LexResult, LexerState, List, None, Option, PlainCheck, Some, Steps, StepsBy, StepsThrough, [], ap, append_assoc, arith, at_code, at_end, at_fault, at_more, check_after, code_length, code_stays, code_taken, drop, drop-cons, drop_of_length-le, false, front, get_or, length, length-append, lex_result, may_end, nat_le, nat_tests, refl, refused_index, refused_stays, refused_taken, start_sets, steps_are_lexed, subst, suc, sym, take, take-append-drop, take-append-le, true, ℕ, ◌++◌, ◌+◌, ◌<◌, ◌↔◌, ◌∙◌, ◌∷◌, ◌≡◌, ◌≤◌}
+use Rattle.nap_canon.proofs.Common.{ArePlain, Bool, CodeFault, CodeSets, Front, IsPlain, LexResult, LexerState, List, None, Option, PlainCheck, Some, Step, Steps, StepsBy, StepsThrough, [], ap, append_assoc, arith, at_code, at_end, at_fault, at_more, check_after, code_length, code_stays, code_taken, drop, drop-cons, drop_of_length-le, false, front, get_or, length, length-append, lex_result, may_end, nat_le, nat_tests, refl, refused_index, refused_stays, refused_taken, start_sets, steps_are_lexed, subst, suc, sym, take, take-append-drop, take-append-le, true, ℕ, ◌++◌, ◌+◌, ◌<◌, ◌↔◌, ◌∙◌, ◌∷◌, ◌≡◌, ◌≤◌}
 use Rattle.nap_codes.specs.declared.code.Code.{Code}
-use Rattle.nap_codes.specs.declared.code.Step.TheVariants as steps
 use Rattle.nap_codes.specs.Front as codes
 use Rattle.nap_canon.proofs.operand_lengths.FrontCodes.{no_front}
 use Rattle.nap_canon.proofs.plain_codes.CheckLemmas.{Asks, Turns, check_turns, start_check, all_asked, nothing_asked}
@@ -64,7 +63,7 @@ run_by bytes b state half go codes.unfinished e =
       codes = rest.codes;
       fault = rest.fault;
       end = rest.end;
-      steps = at_more (subst (λ (f : Front). StepsBy f state b steps.More next) (sym e) (refl, refl)) rest.steps;
+      steps = at_more (subst (λ (f : Front). StepsBy f state b Step.More next) (sym e) (refl, refl)) rest.steps;
     }
 run_by bytes b state half go (codes.complete code n after) e =
     let next : LexerState = record { sets = after; half = [] } in
@@ -73,13 +72,13 @@ run_by bytes b state half go (codes.complete code n after) e =
       codes = code ∷ rest.codes;
       fault = rest.fault;
       end = rest.end;
-      steps = at_code (subst (λ (f : Front). StepsBy f state b (steps.Code code) next) (sym e) (refl, complete_size state b code n after half e, refl)) rest.steps;
+      steps = at_code (subst (λ (f : Front). StepsBy f state b (Step.Code code) next) (sym e) (refl, complete_size state b code n after half e, refl)) rest.steps;
     }
 run_by bytes b state half go (codes.refused fault i) e = record {
   codes = [];
   fault = Some fault;
   end = state;
-  steps = at_fault (subst (λ (f : Front). StepsBy f state b (steps.Fault fault) state) (sym e) (refl, refused_size state b fault i half e, refl));
+  steps = at_fault (subst (λ (f : Front). StepsBy f state b (Step.Fault fault) state) (sym e) (refl, refused_size state b fault i half e, refl));
 }
 
 run_from : (bytes : List ℕ) (state : LexerState) → IsHalf state → Run state bytes
@@ -109,7 +108,7 @@ next_byte bytes i within =
     drop-cons bytes i 0 within ∙ ap (λ (k : ℕ). get_or bytes i 0 ∷ drop k bytes) one
 
 pub checked_more : (bytes : List ℕ) (i : ℕ) (lexer next : LexerState) (check : PlainCheck) → Checked bytes i lexer check → i < length bytes →
-    Steps lexer (get_or bytes i 0) steps.More next → IsHalf next → Checked bytes (i + 1) next check
+    Steps lexer (get_or bytes i 0) Step.More next → IsHalf next → Checked bytes (i + 1) next check
 checked_more bytes i lexer next check checked within step half = record {
   codes = checked.codes;
   goes = λ more fault end run. checked.goes more fault end
@@ -119,7 +118,7 @@ checked_more bytes i lexer next check checked within step half = record {
 }
 
 pub checked_code : (bytes : List ℕ) (i : ℕ) (lexer next : LexerState) (check after : PlainCheck) (code : Code) → Checked bytes i lexer check → i < length bytes →
-    Steps lexer (get_or bytes i 0) (steps.Code code) next → IsHalf next → check_after check code ≡ Some after → Checked bytes (i + 1) next after
+    Steps lexer (get_or bytes i 0) (Step.Code code) next → IsHalf next → check_after check code ≡ Some after → Checked bytes (i + 1) next after
 checked_code bytes i lexer next check after code checked within step half turned =
     let turns : Turns Asks check code (Some after) = subst (Turns Asks check code) turned (check_turns check code) in
     let follow : (more : List Code) → (checked.codes ++ code ∷ []) ++ more ≡ checked.codes ++ code ∷ more = λ more. append_assoc checked.codes (code ∷ []) more in
@@ -142,14 +141,14 @@ lexed_so : (bytes : List ℕ) (list : List Code) (fault : Option CodeFault) (end
 lexed_so bytes list fault end run = sym (steps_are_lexed start_sets bytes list fault end run)
 
 pub refused_byte : (bytes : List ℕ) (i : ℕ) (lexer next : LexerState) (check : PlainCheck) (fault : CodeFault) → Checked bytes i lexer check → i < length bytes →
-    Steps lexer (get_or bytes i 0) (steps.Fault fault) next → IsPlain bytes → ⊥
+    Steps lexer (get_or bytes i 0) (Step.Fault fault) next → IsPlain bytes → ⊥
 refused_byte bytes i lexer next check fault checked within step plain =
     let run = checked.goes [] (Some fault) next (subst (λ (bs : List ℕ). StepsThrough lexer bs [] (Some fault) next) (sym (next_byte bytes i within)) (at_fault step)) in
     let bad : ◌≡◌ {A = Option CodeFault} (Some fault) None = ap (λ (l : LexResult). l.fault) (sym (lexed_so bytes (checked.codes ++ []) (Some fault) next run)) ∙ plain.unrefused in
     cc
 
 pub refused_code : (bytes : List ℕ) (i : ℕ) (lexer next : LexerState) (check : PlainCheck) (code : Code) → Checked bytes i lexer check → i < length bytes →
-    Steps lexer (get_or bytes i 0) (steps.Code code) next → IsHalf next → check_after check code ≡ None → IsPlain bytes → ⊥
+    Steps lexer (get_or bytes i 0) (Step.Code code) next → IsHalf next → check_after check code ≡ None → IsPlain bytes → ⊥
 refused_code bytes i lexer next check code checked within step half turned plain =
     let turns : Turns Asks check code None = subst (Turns Asks check code) turned (check_turns check code) in
     let rest = run_from (drop (i + 1) bytes) next half in

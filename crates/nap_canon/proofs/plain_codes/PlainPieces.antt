@@ -1,12 +1,8 @@
 -- Pieces of canonical text spell plain codes.
 
-use Rattle.nap_canon.proofs.Common.{All, All-append, All-cons, All-head, All-nil, All-tail, AllMayFollow, Bool, DomainNext, GSet, IsAbsolute, IsGraphic, IsOperandByte, IsPlainCode, IsWord, List, MayFollowCode, None, Opcode, Piece, Some, Spells, TextEnd, [], append-nil, append_assoc, arith, char_piece, control, domain, false, gl_of, group, joins_open_run, left_out_opcode, length, map, non_pdi_code, number_rows, opcode, opcode_rows, piece_bytes, pieces_bytes, pieces_bytes-append, primary, refl, row_of, set_rows, shift_to_opcodes, shift_to_primary, subst, sym, text_end_after, text_end_after-append, true, with_set, word_byte, ℕ, ◌++◌, ◌-◌, ◌<◌, ◌∷◌, ◌≡◌}
+use Rattle.nap_canon.proofs.Common.{All, All-append, All-cons, All-head, All-nil, All-tail, AllMayFollow, Bool, CharSet, CodeSet, DomainNext, GSet, IsAbsolute, IsGraphic, IsOperandByte, IsPlainCode, IsWord, List, MayFollowCode, None, Opcode, Piece, Some, Spells, TextEnd, [], append-nil, append_assoc, arith, char_piece, control, domain, false, gl_of, group, joins_open_run, left_out_opcode, length, map, non_pdi_code, number_rows, opcode, opcode_rows, piece_bytes, pieces_bytes, pieces_bytes-append, primary, refl, row_of, set_rows, shift_to_opcodes, shift_to_primary, subst, sym, text_end_after, text_end_after-append, true, with_set, word_byte, ℕ, ◌++◌, ◌-◌, ◌<◌, ◌∷◌, ◌≡◌}
 use Rattle.nap_codes.specs.declared.code.Code.{Code}
-use Rattle.nap_codes.specs.declared.code.Code.TheVariants as codes
-use Rattle.nap_codes.specs.declared.code_set.CharSet.TheVariants as chars
-use Rattle.nap_codes.specs.declared.code_set.CodeSet.TheVariants as code_sets
 use Rattle.nap_codes.specs.declared.code_set.GSet.TheVariants.{G0, G1, G2, G3}
-use Rattle.nap_codes.specs.declared.opcode.Opcode.TheVariants as opcodes
 use Rattle.nap_codes.specs.Spelling as spells
 use Rattle.nap_canon.specs.declared.text_end.TextEnd.TheVariants.{NoRun, InRun}
 use Rattle.nap_canon.proofs.reading.PieceLemmas.{sets_with}
@@ -63,20 +59,20 @@ codes_after_plain t ps qs first second =
 
 shifts_out : (gl : GSet) → PlainBytes gl (shift_to_opcodes gl) G1
 shifts_out G1 = no_bytes G1
-shifts_out G0 = code_bytes G0 G1 (0x0E ∷ []) codes.Shifted spells.shift_out tt (λ rest. tt)
-shifts_out G2 = code_bytes G2 G1 (0x0E ∷ []) codes.Shifted spells.shift_out tt (λ rest. tt)
-shifts_out G3 = code_bytes G3 G1 (0x0E ∷ []) codes.Shifted spells.shift_out tt (λ rest. tt)
+shifts_out G0 = code_bytes G0 G1 (0x0E ∷ []) Code.Shifted spells.shift_out tt (λ rest. tt)
+shifts_out G2 = code_bytes G2 G1 (0x0E ∷ []) Code.Shifted spells.shift_out tt (λ rest. tt)
+shifts_out G3 = code_bytes G3 G1 (0x0E ∷ []) Code.Shifted spells.shift_out tt (λ rest. tt)
 
 shifts_in : (gl : GSet) → PlainBytes gl (shift_to_primary gl) G0
 shifts_in G0 = no_bytes G0
-shifts_in G1 = code_bytes G1 G0 (0x0F ∷ []) codes.Shifted spells.shift_in tt (λ rest. tt)
-shifts_in G2 = code_bytes G2 G0 (0x0F ∷ []) codes.Shifted spells.shift_in tt (λ rest. tt)
-shifts_in G3 = code_bytes G3 G0 (0x0F ∷ []) codes.Shifted spells.shift_in tt (λ rest. tt)
+shifts_in G1 = code_bytes G1 G0 (0x0F ∷ []) Code.Shifted spells.shift_in tt (λ rest. tt)
+shifts_in G2 = code_bytes G2 G0 (0x0F ∷ []) Code.Shifted spells.shift_in tt (λ rest. tt)
+shifts_in G3 = code_bytes G3 G0 (0x0F ∷ []) Code.Shifted spells.shift_in tt (λ rest. tt)
 
 -- an opcode with its operands
 
 abbrev pub operand_codes : List ℕ → List Code
-operand_codes bytes = map (λ b. codes.Operand (b - 64)) bytes
+operand_codes bytes = map (λ b. Code.Operand (b - 64)) bytes
 
 operands_spelled : (bytes : List ℕ) → All IsOperandByte bytes → AllSpelled (sets_with G1) bytes (operand_codes bytes) (sets_with G1)
 operands_spelled [] all = no_code
@@ -86,7 +82,7 @@ operands_spelled (b ∷ bytes) all =
 
 operands_each : (bytes : List ℕ) → All IsPlainCode (operand_codes bytes)
 operands_each [] = All-nil IsPlainCode
-operands_each (b ∷ bytes) = All-cons IsPlainCode (codes.Operand (b - 64)) (operand_codes bytes) tt (operands_each bytes)
+operands_each (b ∷ bytes) = All-cons IsPlainCode (Code.Operand (b - 64)) (operand_codes bytes) tt (operands_each bytes)
 
 operands_join : (bytes : List ℕ) (rest : List Code) → AllMayFollow rest → AllMayFollow (operand_codes bytes ++ rest)
 unfolding AllMayFollow
@@ -100,25 +96,25 @@ operands_plain bytes all = record { list = operand_codes bytes; by = operands_sp
 abbrev pub IsOpcode : ℕ → Opcode → Type 0
 IsOpcode byte op = (row_of opcode_rows byte ≡ Some op) × (left_out_opcode op ≡ None) × IsAbsolute op × (byte < 64)
 
-run_plain : (byte : ℕ) (op : Opcode) (bytes : List ℕ) → IsOpcode byte op → All IsOperandByte bytes → ((rest : List Code) → MayFollowCode (codes.Op op) (operand_codes bytes ++ rest)) →
+run_plain : (byte : ℕ) (op : Opcode) (bytes : List ℕ) → IsOpcode byte op → All IsOperandByte bytes → ((rest : List Code) → MayFollowCode (Code.Op op) (operand_codes bytes ++ rest)) →
     PlainBytes G1 (byte ∷ bytes) G1
 unfolding AllMayFollow
 run_plain byte op bytes is all comes = record {
-  list = codes.Op op ∷ operand_codes bytes;
+  list = Code.Op op ∷ operand_codes bytes;
   by = one_code (spells.opcode refl is.0 is.1) (operands_spelled bytes all);
-  each = All-cons IsPlainCode (codes.Op op) (operand_codes bytes) is.2 (operands_each bytes);
+  each = All-cons IsPlainCode (Code.Op op) (operand_codes bytes) is.2 (operands_each bytes);
   joins = λ rest h. (comes rest, operands_join bytes rest h);
 }
 
 pub opcode_plain : (t : TextEnd) (byte : ℕ) (op : Opcode) (bytes : List ℕ) → IsOpcode byte op → All IsOperandByte bytes →
-    ((rest : List Code) → MayFollowCode (codes.Op op) (operand_codes bytes ++ rest)) → PlainlySpelled t (opcode byte bytes ∷ [])
+    ((rest : List Code) → MayFollowCode (Code.Op op) (operand_codes bytes ++ rest)) → PlainlySpelled t (opcode byte bytes ∷ [])
 unfolding text_end_after
 opcode_plain t byte op bytes is all comes =
     piece_plain t (opcode byte bytes) (both_bytes (gl_of t) G1 G1 (shift_to_opcodes (gl_of t)) (byte ∷ bytes) (shifts_out (gl_of t)) (run_plain byte op bytes is all comes))
 
 -- a group of operands: after its opcode, or in a run
 pub group_plain : (t : TextEnd) (byte : ℕ) (op : Opcode) (bytes : List ℕ) → IsOpcode byte op → All IsOperandByte bytes →
-    ((rest : List Code) → MayFollowCode (codes.Op op) (operand_codes bytes ++ rest)) → PlainlySpelled t (group byte bytes ∷ [])
+    ((rest : List Code) → MayFollowCode (Code.Op op) (operand_codes bytes ++ rest)) → PlainlySpelled t (group byte bytes ∷ [])
 unfolding pieces_bytes text_end_after
 group_plain (NoRun gl) byte op bytes is all comes = opcode_plain (NoRun gl) byte op bytes is all comes
 group_plain (InRun run) byte op bytes is all comes = at (joins_open_run (InRun run) byte (length bytes)) refl
@@ -132,17 +128,17 @@ pub reset_plain : (t : TextEnd) (first second : ℕ) → IsWord first → IsWord
 unfolding pieces_bytes text_end_after row_of opcode_rows left_out_opcode DomainNext AllMayFollow
 reset_plain t first second one two =
     let bytes : List ℕ = 0x20 ∷ word_byte first ∷ word_byte second ∷ 0x21 ∷ 0x5F ∷ [] in
-    let words : List Code = codes.Operand (word_byte first - 64) ∷ codes.Operand (word_byte second - 64) ∷ [] in
-    let again : List Code = codes.Op opcodes.Domain ∷ codes.Operand 31 ∷ [] in
+    let words : List Code = Code.Operand (word_byte first - 64) ∷ Code.Operand (word_byte second - 64) ∷ [] in
+    let again : List Code = Code.Op Opcode.Domain ∷ Code.Operand 31 ∷ [] in
     let all : PlainBytes G1 bytes G1 = record {
-      list = codes.Op opcodes.Reset ∷ words ++ again;
+      list = Code.Op Opcode.Reset ∷ words ++ again;
       by = one_code (spells.opcode refl refl refl)
           (one_code (spells.operand refl (omega arith) (omega (arith, one)))
           (one_code (spells.operand refl (omega arith) (omega (arith, two)))
           (one_code (spells.opcode refl refl refl) (one_code (spells.operand refl (omega arith) (omega arith)) no_code))));
-      each = All-cons IsPlainCode (codes.Op opcodes.Reset) (words ++ again) tt
+      each = All-cons IsPlainCode (Code.Op Opcode.Reset) (words ++ again) tt
           (All-append IsPlainCode words again (operands_each (word_byte first ∷ word_byte second ∷ []))
-          (All-cons IsPlainCode (codes.Op opcodes.Domain) (codes.Operand 31 ∷ []) tt (operands_each (0x5F ∷ []))));
+          (All-cons IsPlainCode (Code.Op Opcode.Domain) (Code.Operand 31 ∷ []) tt (operands_each (0x5F ∷ []))));
       joins = λ rest h. (λ odd. tt, (tt, (tt, (refl, (tt, h)))));
     } in
     subst (λ (bs : List ℕ). PlainBytes (gl_of t) bs G1) (sym (append_assoc (shift_to_opcodes (gl_of t)) (0x20 ∷ word_byte first ∷ word_byte second ∷ []) (0x21 ∷ 0x5F ∷ [])))
@@ -159,18 +155,18 @@ pub primary_plain : (t : TextEnd) (code : ℕ) → IsGraphic code → PlainlySpe
 unfolding text_end_after non_pdi_code
 primary_plain t code graphic =
     piece_plain t (primary code) (both_bytes (gl_of t) G0 G0 (shift_to_primary (gl_of t)) (code ∷ []) (shifts_in (gl_of t))
-    (code_bytes G0 G0 (code ∷ []) (codes.Char chars.Primary code) (spells.in_gl graphic refl) tt (λ rest. tt)))
+    (code_bytes G0 G0 (code ∷ []) (Code.Char CharSet.Primary code) (spells.in_gl graphic refl) tt (λ rest. tt)))
 
 -- a character of the DRCS, which is in G3 only for that time
-pub drcs_plain : (t : TextEnd) (code : ℕ) → IsGraphic code → PlainlySpelled t (char_piece chars.Drcs code ∷ [])
+pub drcs_plain : (t : TextEnd) (code : ℕ) → IsGraphic code → PlainlySpelled t (char_piece CharSet.Drcs code ∷ [])
 unfolding text_end_after AllMayFollow non_pdi_code with_set row_of number_rows set_rows
 drcs_plain t code graphic =
-    let first : Code = codes.Designated 3 code_sets.Drcs in
-    let last : Code = codes.Designated 3 code_sets.Mosaic in
-    piece_plain t (char_piece chars.Drcs code) (record {
-      list = first ∷ codes.Char chars.Drcs code ∷ last ∷ [];
+    let first : Code = Code.Designated 3 CodeSet.Drcs in
+    let last : Code = Code.Designated 3 CodeSet.Mosaic in
+    piece_plain t (char_piece CharSet.Drcs code) (record {
+      list = first ∷ Code.Char CharSet.Drcs code ∷ last ∷ [];
       by = one_code (spells.designation refl refl) (one_code (spells.single_shift3 graphic refl) (one_code (spells.designation refl refl) no_code));
-      each = All-cons IsPlainCode first (codes.Char chars.Drcs code ∷ last ∷ []) tt
-          (All-cons IsPlainCode (codes.Char chars.Drcs code) (last ∷ []) tt (All-cons IsPlainCode last [] tt (All-nil IsPlainCode)));
+      each = All-cons IsPlainCode first (Code.Char CharSet.Drcs code ∷ last ∷ []) tt
+          (All-cons IsPlainCode (Code.Char CharSet.Drcs code) (last ∷ []) tt (All-cons IsPlainCode last [] tt (All-nil IsPlainCode)));
       joins = λ rest h. (tt, (tt, (tt, h)));
     })

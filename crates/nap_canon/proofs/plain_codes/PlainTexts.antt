@@ -1,10 +1,8 @@
 -- The text of a list is plain.
 
-use Rattle.nap_canon.proofs.Common.{All, All-cons, AllMayFollow, ArePlain, DomainFirst, Entry, Form, IsPlainCode, LexResult, List, OperandLengths, Piece, State, TextEnd, TextIsPlain, [], after, ap, append-nil, arith, attributes, command_piece, entry_pieces, gl_of, group, inl, inr, left_out_opcode, map, opcode_rows, pieces, pieces_bytes, prelude, refl, row_of, spelling_pieces, start, start_domain, start_sets, subst, sym, text_end_after, text_end_after_header, text_in, with_attributes, ◌++◌, ◌∷◌}
+use Rattle.nap_canon.proofs.Common.{All, All-cons, AllMayFollow, ArePlain, DomainFirst, Entry, Form, IsPlainCode, LexResult, List, Opcode, OperandLengths, Piece, State, TextEnd, TextIsPlain, [], after, ap, append-nil, arith, attributes, command_piece, entry_pieces, gl_of, group, inl, inr, left_out_opcode, map, opcode_rows, pieces, pieces_bytes, prelude, refl, row_of, spelling_pieces, start, start_domain, start_sets, subst, sym, text_end_after, text_end_after_header, text_in, with_attributes, ◌++◌, ◌∷◌}
 use Rattle.nap_codes.specs.declared.code.Code.{Code}
-use Rattle.nap_codes.specs.declared.code.Code.TheVariants as codes
 use Rattle.nap_codes.specs.declared.code_set.GSet.TheVariants.{G1}
-use Rattle.nap_codes.specs.declared.opcode.Opcode.TheVariants as opcodes
 use Rattle.nap_codes.specs.Spelling as spells
 use Rattle.nap_canon.proofs.spelling.CommandLemmas.{work_at}
 use Rattle.nap_canon.proofs.reading.ConveyLemmas.{convey_plain}
@@ -20,7 +18,7 @@ use Rattle.nap_canon.proofs.spelling.StrokeLemmas.{joining_comes}
 
 -- the codes of the header, and others after it
 abbrev with_header : List Code → List Code
-with_header list = codes.Shifted ∷ codes.Op opcodes.Domain ∷ codes.Operand 31 ∷ list
+with_header list = Code.Shifted ∷ Code.Op Opcode.Domain ∷ Code.Operand 31 ∷ list
 
 header_spelled : (form : Form) (es : List Entry) (list : List Code) →
     AllSpelled (sets_with G1) (pieces_bytes text_end_after_header (pieces form start es)) list (sets_with (gl_of (text_end_after text_end_after_header (pieces form start es)))) →
@@ -31,8 +29,8 @@ header_spelled form es list by = one_code spells.shift_out (one_code (spells.opc
 header_plain : (list : List Code) → All IsPlainCode list → AllMayFollow list → ArePlain (with_header list)
 unfolding DomainFirst AllMayFollow
 header_plain list each follow = record {
-  each = All-cons IsPlainCode codes.Shifted (codes.Op opcodes.Domain ∷ codes.Operand 31 ∷ list) tt
-      (All-cons IsPlainCode (codes.Op opcodes.Domain) (codes.Operand 31 ∷ list) tt (All-cons IsPlainCode (codes.Operand 31) list tt each));
+  each = All-cons IsPlainCode Code.Shifted (Code.Op Opcode.Domain ∷ Code.Operand 31 ∷ list) tt
+      (All-cons IsPlainCode (Code.Op Opcode.Domain) (Code.Operand 31 ∷ list) tt (All-cons IsPlainCode (Code.Operand 31) list tt each));
   first = refl;
   follow = (tt, (refl, (tt, follow)));
 }

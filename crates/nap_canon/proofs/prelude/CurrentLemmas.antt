@@ -1,7 +1,6 @@
 -- The prelude sets nothing that is current.
 
-use Rattle.nap_canon.proofs.Common.{AreCurrent, Attributes, Base, Bool, CharSize, Colour, Decides-int_eq, Displacement, Drawing, IfSome, None, Option, Pen, Some, TextLook, Texture, [], ap, arith, colour_commands, colour_prelude, given_size_commands, mask_commands, named_size_commands, nat_tests, pel_prelude, pen_commands, pen_prelude, prelude, refl, same_colour, same_flag, same_move, same_pen, same_size, same_texture, sym, text_prelude, texture_prelude, true, unless, ℕ, ◌&&◌, ◌==◌, ◌∙◌, ◌≡◌}
-use Rattle.nap_list.specs.declared.attribute.CharSize.TheVariants as sizes
+use Rattle.nap_canon.proofs.Common.{AppendsCommands, AreCurrent, Attributes, Base, Bool, CharSize, Colour, Command, Decides-int_eq, Displacement, Drawing, IfSome, List, None, Option, Pen, Pending, Some, TextLook, Texture, [], ap, append-nil, arith, colour_commands, colour_prelude, given_size_commands, mask_commands, named_size_commands, nat_tests, pel_prelude, pen_commands, pen_prelude, pieces_bytes, prelude, refl, same_colour, same_flag, same_move, same_pen, same_size, same_texture, subst, sym, text_end_after, text_prelude, texture_prelude, true, unless, ℕ, ◌&&◌, ◌==◌, ◌∙◌, ◌≡◌}
 
 -- equal values pass their test
 
@@ -51,12 +50,12 @@ texture_is_current old (Some texture) is =
     ap (λ same. unless same (mask_commands texture.word old.mask texture.mask)) (ap (λ t. same_texture t texture) (sym is) ∙ texture_same texture)
 
 given_is_current : (t : TextLook) (size : CharSize) → t.size ≡ size → given_size_commands t t size ≡ []
-given_is_current t (sizes.Named size) is = rw (numbers_same t.first t.second) refl
-given_is_current t (sizes.Given m) is = rw (is, size_same (sizes.Given m), numbers_same t.first t.second) refl
+given_is_current t (CharSize.Named size) is = rw (numbers_same t.first t.second) refl
+given_is_current t (CharSize.Given m) is = rw (is, size_same (CharSize.Given m), numbers_same t.first t.second) refl
 
 named_is_current : (size : CharSize) → named_size_commands size size ≡ []
-named_is_current (sizes.Named size) = rw (size_same (sizes.Named size)) refl
-named_is_current (sizes.Given m) = refl
+named_is_current (CharSize.Named size) = rw (size_same (CharSize.Named size)) refl
+named_is_current (CharSize.Given m) = refl
 
 pub look_is_current : (old : TextLook) (w : Option TextLook) → IfSome w (λ text. text ≡ old) → text_prelude old w ≡ []
 unfolding text_prelude
@@ -76,3 +75,12 @@ nothing_to_set h d is =
       texture_is_current d.texture h.texture is.holds.texture,
       look_is_current d.text h.text is.holds.text,
     ) refl
+
+-- so nothing is appended
+
+pub none_appended : (commands : List Command) (r : Pending) → commands ≡ [] → AppendsCommands commands r r
+unfolding pieces_bytes text_end_after
+none_appended commands r is = subst (λ (cs : List Command). AppendsCommands cs r r) (sym is) (record { appended = sym (append-nil r.bytes); text_end = refl })
+
+pub nothing_appended : (h : Attributes) (d : Drawing) (r : Pending) → AreCurrent h d → AppendsCommands (prelude d h) r r
+nothing_appended h d r is = none_appended (prelude d h) r (nothing_to_set h d is)

@@ -1,30 +1,28 @@
 -- Commands that lead from some attributes to others.
 
 use Rattle.nap_canon.proofs.Common.{All, All-append, All-cons, All-nil, Bool, Colour, Command, Drawing, HasSixteenBitParts, IsAddress, IsInRange, IsInSquare, IsWord, List, [], ap, effect, effects, false, refl, subst, sym, true, unless, ⊤, ◌++◌, ◌∙◌, ◌∷◌, ◌≡◌}
-use Rattle.nap_list.specs.declared.attribute.Colour.TheVariants as colours
-use Rattle.nap_canon.specs.declared.command.Command.TheVariants as commands
 
 abbrev pub CommandInRange : Command → Type 0
-CommandInRange (commands.PointSet p) = IsInSquare p
-CommandInRange (commands.Pel m) = IsInRange m
-CommandInRange (commands.SelectFront a) = IsAddress a
-CommandInRange (commands.SelectPair a b) = IsAddress a × IsAddress b
-CommandInRange (commands.SetColor grb) = HasSixteenBitParts grb
-CommandInRange (commands.Texture word) = IsWord word
-CommandInRange (commands.TextureMask word m) = IsWord word × IsInRange m
-CommandInRange (commands.Text first second) = IsWord first × IsWord second
-CommandInRange (commands.TextSize first second m) = IsWord first × IsWord second × IsInRange m
+CommandInRange (Command.PointSet p) = IsInSquare p
+CommandInRange (Command.Pel m) = IsInRange m
+CommandInRange (Command.SelectFront a) = IsAddress a
+CommandInRange (Command.SelectPair a b) = IsAddress a × IsAddress b
+CommandInRange (Command.SetColor grb) = HasSixteenBitParts grb
+CommandInRange (Command.Texture word) = IsWord word
+CommandInRange (Command.TextureMask word m) = IsWord word × IsInRange m
+CommandInRange (Command.Text first second) = IsWord first × IsWord second
+CommandInRange (Command.TextSize first second m) = IsWord first × IsWord second × IsInRange m
 CommandInRange _ = ⊤
 
 -- a colour of mode 0, which SET COLOR sets
 abbrev pub IsModeZero : Colour → Type 0
-IsModeZero (colours.Own origin) = ⊤
-IsModeZero (colours.Direct grb) = ⊤
+IsModeZero (Colour.Own origin) = ⊤
+IsModeZero (Colour.Direct grb) = ⊤
 IsModeZero _ = ⊥
 
 -- The command has its effect on these attributes.
 abbrev pub Takes : Command → Drawing → Type 0
-Takes (commands.SetColor grb) d = IsModeZero d.colour
+Takes (Command.SetColor grb) d = IsModeZero d.colour
 Takes _ d = ⊤
 
 -- each command of a list has its effect, after those before it

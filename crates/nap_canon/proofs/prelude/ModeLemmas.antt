@@ -1,11 +1,6 @@
 -- The base is the colour of mode 0, after every walk of entries that fit.
 
-use Rattle.nap_canon.proofs.Common.{AllFit, Base, Bool, Colour, ColourFits, Coordinates, Drawing, Entry, Fits, List, ModeZeroIsBase, None, OpenDefinition, Option, PreludeLeads, Some, State, [], after, attributes, base_after, colour_code, cond, definition_after, effect_on_drawing, false, length, refl, restored_drawing, slice_get, start, true, unwrap_or, walk, with_attributes, with_pen_at, ⊤, ◌-◌, ◌==◌, ◌∷◌}
-use Rattle.nap_list.specs.declared.attribute.Origin.TheVariants as origins
-use Rattle.nap_list.specs.declared.attribute.Preset.TheVariants as presets
-use Rattle.nap_list.specs.declared.attribute.Base.TheVariants as bases
-use Rattle.nap_list.specs.declared.attribute.Colour.TheVariants as colours
-use Rattle.nap_list.specs.declared.entry.Entry.TheVariants as entries
+use Rattle.nap_canon.proofs.Common.{AllFit, Base, Bool, Colour, ColourFits, Coordinates, Drawing, Entry, Fits, List, ModeZeroIsBase, None, OpenDefinition, Option, Origin, PreludeLeads, Preset, Some, State, [], after, attributes, base_after, colour_code, cond, definition_after, effect_on_drawing, false, length, refl, restored_drawing, slice_get, start, true, unwrap_or, walk, with_attributes, with_pen_at, ⊤, ◌-◌, ◌==◌, ◌∷◌}
 use Rattle.nap_canon.proofs.prelude.PreludeLemmas as preludes
 
 abbrev SavedInMode : Option OpenDefinition → Type 0
@@ -19,15 +14,15 @@ pub record IsInMode (s : State) : Type 0 where
 
 taking_in_mode : (d : Drawing) (w : Option Colour) → ModeZeroIsBase d.base d.colour → ColourFits d w → ModeZeroIsBase (base_after d.base w) (unwrap_or w d.colour)
 taking_in_mode d None h fits = h
-taking_in_mode d (Some (colours.Own origin)) h fits = fits
-taking_in_mode d (Some (colours.Direct grb)) h fits = refl
-taking_in_mode d (Some (colours.Front a)) h fits = tt
-taking_in_mode d (Some (colours.Pair a b)) h fits = tt
-taking_in_mode d (Some (colours.ByReset preset)) h fits = tt
+taking_in_mode d (Some (Colour.Own origin)) h fits = fits
+taking_in_mode d (Some (Colour.Direct grb)) h fits = refl
+taking_in_mode d (Some (Colour.Front a)) h fits = tt
+taking_in_mode d (Some (Colour.Pair a b)) h fits = tt
+taking_in_mode d (Some (Colour.ByReset preset)) h fits = tt
 
 reset_in_mode : (a b c : Bool) (base : Base) (colour : Colour) → ModeZeroIsBase base colour →
-    ModeZeroIsBase (cond a (bases.Own origins.AfterReset) base)
-    (cond a (colours.Own origins.AfterReset) (cond b (colours.ByReset presets.Two) (cond c (colours.ByReset presets.Three) colour)))
+    ModeZeroIsBase (cond a (Base.Own Origin.AfterReset) base)
+    (cond a (Colour.Own Origin.AfterReset) (cond b (Colour.ByReset Preset.Two) (cond c (Colour.ByReset Preset.Three) colour)))
 reset_in_mode true b c base colour h = refl
 reset_in_mode false true c base colour h = tt
 reset_in_mode false false true base colour h = tt
@@ -42,17 +37,17 @@ saved_in_mode None d s h = h
 saved_in_mode (Some opened) d s h = s
 
 drawn_in_mode : (o : Option OpenDefinition) (d : Drawing) (e : Entry) → SavedInMode o → ModeZeroIsBase d.base d.colour → ModeZeroIsBase (effect_on_drawing o d e).base (effect_on_drawing o d e).colour
-drawn_in_mode o d (entries.Arc filled points ink) s h = pen_in_mode (slice_get points (length points - 1)) d h
-drawn_in_mode o d (entries.Poly filled points ink) s h = pen_in_mode (slice_get points 0) d h
-drawn_in_mode o d (entries.Reset first second pen) s h = reset_in_mode (colour_code first == 1) (colour_code first == 2) (colour_code first == 3) d.base d.colour h
-drawn_in_mode o d (entries.Map addr grb) s h = tt
-drawn_in_mode o d entries.DefEnd s h = saved_in_mode o d s h
+drawn_in_mode o d (Entry.Arc filled points ink) s h = pen_in_mode (slice_get points (length points - 1)) d h
+drawn_in_mode o d (Entry.Poly filled points ink) s h = pen_in_mode (slice_get points 0) d h
+drawn_in_mode o d (Entry.Reset first second pen) s h = reset_in_mode (colour_code first == 1) (colour_code first == 2) (colour_code first == 3) d.base d.colour h
+drawn_in_mode o d (Entry.Map addr grb) s h = tt
+drawn_in_mode o d Entry.DefEnd s h = saved_in_mode o d s h
 drawn_in_mode o d e s h = h
 
 definition_in_mode : (o : Option OpenDefinition) (d : Drawing) (e : Entry) → SavedInMode o → ModeZeroIsBase d.base d.colour → SavedInMode (definition_after o d e)
-definition_in_mode o d (entries.GlyphStart code) s h = h
-definition_in_mode o d (entries.MaskStart mask) s h = h
-definition_in_mode o d entries.DefEnd s h = tt
+definition_in_mode o d (Entry.GlyphStart code) s h = h
+definition_in_mode o d (Entry.MaskStart mask) s h = h
+definition_in_mode o d Entry.DefEnd s h = tt
 definition_in_mode o d e s h = s
 
 pub in_mode_after : (s : State) (e : Entry) → IsInMode s → Fits s e → IsInMode (after s e)

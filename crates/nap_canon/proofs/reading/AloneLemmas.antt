@@ -1,10 +1,7 @@
 -- What a reader does with pieces of canonical text that aren't opcodes.
 
-use Rattle.nap_canon.proofs.Common.{CodeSets, Entry, GSet, IsAlone, IsGraphic, List, Machine, Ok, Placed, RuleResult, Spells, Work, [], ap, append-nil, char_piece, code_rule, control, in_gl, non_pdi_code, number_rows, piece_bytes, pieces_bytes, placed_from, primary, refl, row_of, rule_result, set_rows, shift_in, single_shift3, subst, suc, sym, text_end_after, walk, with_set, ℕ, ◌++◌, ◌∙◌, ◌∷◌, ◌≡◌}
+use Rattle.nap_canon.proofs.Common.{CharSet, CodeSet, CodeSets, Entry, GSet, IsAlone, IsGraphic, List, Machine, Ok, Placed, RuleResult, Spells, Work, [], ap, append-nil, char_piece, code_rule, control, in_gl, non_pdi_code, number_rows, piece_bytes, pieces_bytes, placed_from, primary, refl, row_of, rule_result, set_rows, shift_in, single_shift3, subst, suc, sym, text_end_after, walk, with_set, ℕ, ◌++◌, ◌∙◌, ◌∷◌, ◌≡◌}
 use Rattle.nap_codes.specs.declared.code.Code.{Code}
-use Rattle.nap_codes.specs.declared.code.Code.TheVariants as code
-use Rattle.nap_codes.specs.declared.code_set.CharSet.TheVariants as chars
-use Rattle.nap_codes.specs.declared.code_set.CodeSet.TheVariants as code_sets
 use Rattle.nap_codes.specs.declared.code_set.GSet.TheVariants.{G0, G1, G2, G3}
 use Rattle.nap_codes.specs.Spelling.{designation}
 use Rattle.nap_canon.specs.declared.text_end.TextEnd.TheVariants.{NoRun}
@@ -32,16 +29,16 @@ shifts_in : (budget : ℕ) (gl : GSet) (work : Work) (n : ℕ) (xs : List Placed
     Reads (at budget G0 work) xs es end → Reads (at budget gl work) (placed_from n (0x0F ∷ []) ++ xs) es end
 unfolding walk
 shifts_in budget gl work n xs es end more_reads =
-    code_reads budget (sets_with gl) work n [] 0x0F code.Shifted (sets_with G0) (rule_result work []) xs es end tt shift_in refl more_reads
+    code_reads budget (sets_with gl) work n [] 0x0F Code.Shifted (sets_with G0) (rule_result work []) xs es end tt shift_in refl more_reads
 
 -- a primary character, after a shift if its set isn't in GL
 
-primary_in_gl : (budget : ℕ) (work : Work) (byte : ℕ) (d : RuleResult) → IsGraphic byte → code_rule work (code.Char chars.Primary byte) ≡ Ok d →
+primary_in_gl : (budget : ℕ) (work : Work) (byte : ℕ) (d : RuleResult) → IsGraphic byte → code_rule work (Code.Char CharSet.Primary byte) ≡ Ok d →
     (n : ℕ) (xs : List Placed) (more : List Entry) (end : Machine) → Reads (at budget G0 d.work) xs more end →
     Reads (at budget G0 work) (placed_from n (byte ∷ []) ++ xs) (d.entries ++ more) end
 unfolding non_pdi_code
 primary_in_gl budget work byte d graphic by n xs more end more_reads =
-    code_reads budget (sets_with G0) work n [] byte (code.Char chars.Primary byte) (sets_with G0) d xs more end tt (in_gl graphic refl) by more_reads
+    code_reads budget (sets_with G0) work n [] byte (Code.Char CharSet.Primary byte) (sets_with G0) d xs more end tt (in_gl graphic refl) by more_reads
 
 primary_shifted : (budget : ℕ) (gl : GSet) (work : Work) (byte : ℕ) (n : ℕ) (xs : List Placed) (es : List Entry) (end : Machine) →
     ((k : ℕ) → Reads (at budget G0 work) (placed_from k (byte ∷ []) ++ xs) es end) →
@@ -52,7 +49,7 @@ primary_shifted budget G1 work byte n xs es end read = shifts_in budget G1 work 
 primary_shifted budget G2 work byte n xs es end read = shifts_in budget G2 work n (placed_from (suc n) (byte ∷ []) ++ xs) es end (read (suc n))
 primary_shifted budget G3 work byte n xs es end read = shifts_in budget G3 work n (placed_from (suc n) (byte ∷ []) ++ xs) es end (read (suc n))
 
-pub primary_acts : (budget : ℕ) (gl : GSet) (work : Work) (byte : ℕ) (d : RuleResult) → IsGraphic byte → code_rule work (code.Char chars.Primary byte) ≡ Ok d →
+pub primary_acts : (budget : ℕ) (gl : GSet) (work : Work) (byte : ℕ) (d : RuleResult) → IsGraphic byte → code_rule work (Code.Char CharSet.Primary byte) ≡ Ok d →
     Acts budget gl work (primary byte ∷ []) d.entries d.work
 unfolding pieces_bytes text_end_after
 primary_acts budget gl work byte d graphic by n xs more end anew more_reads =
@@ -63,30 +60,30 @@ primary_acts budget gl work byte d graphic by n xs more end anew more_reads =
 
 -- the code sets with this one in G3
 abbrev third : GSet → CodeSets
-third gl = record (sets_with gl) { g3 = code_sets.Drcs }
+third gl = record (sets_with gl) { g3 = CodeSet.Drcs }
 
-designates_drcs : (gl : GSet) → Spells (sets_with gl) (0x1B ∷ 0x2B ∷ 0x7B ∷ []) (code.Designated 3 code_sets.Drcs) (third gl)
+designates_drcs : (gl : GSet) → Spells (sets_with gl) (0x1B ∷ 0x2B ∷ 0x7B ∷ []) (Code.Designated 3 CodeSet.Drcs) (third gl)
 unfolding row_of number_rows set_rows with_set
 designates_drcs gl = designation refl refl
 
-designates_mosaic : (gl : GSet) → Spells (third gl) (0x1B ∷ 0x2B ∷ 0x7D ∷ []) (code.Designated 3 code_sets.Mosaic) (sets_with gl)
+designates_mosaic : (gl : GSet) → Spells (third gl) (0x1B ∷ 0x2B ∷ 0x7D ∷ []) (Code.Designated 3 CodeSet.Mosaic) (sets_with gl)
 unfolding row_of number_rows set_rows with_set
 designates_mosaic gl = designation refl refl
 
-drcs_spelled : (gl : GSet) (byte : ℕ) → IsGraphic byte → Spells (third gl) (0x1D ∷ byte ∷ []) (code.Char chars.Drcs byte) (third gl)
+drcs_spelled : (gl : GSet) (byte : ℕ) → IsGraphic byte → Spells (third gl) (0x1D ∷ byte ∷ []) (Code.Char CharSet.Drcs byte) (third gl)
 unfolding non_pdi_code
 drcs_spelled gl byte graphic = single_shift3 graphic refl
 
-pub drcs_acts : (budget : ℕ) (gl : GSet) (work : Work) (byte : ℕ) (d : RuleResult) → IsGraphic byte → code_rule work (code.Char chars.Drcs byte) ≡ Ok d →
-    Acts budget gl work (char_piece chars.Drcs byte ∷ []) d.entries d.work
+pub drcs_acts : (budget : ℕ) (gl : GSet) (work : Work) (byte : ℕ) (d : RuleResult) → IsGraphic byte → code_rule work (Code.Char CharSet.Drcs byte) ≡ Ok d →
+    Acts budget gl work (char_piece CharSet.Drcs byte ∷ []) d.entries d.work
 unfolding pieces_bytes text_end_after placed_from walk
 drcs_acts budget gl work byte d graphic by n xs more end anew more_reads =
     let fourth : ℕ = suc (suc (suc n)) in
     let sixth : ℕ = suc (suc fourth) in
     let closing : List Placed = placed_from sixth (0x1B ∷ 0x2B ∷ 0x7D ∷ []) ++ xs in
     let shown : List Placed = placed_from fourth (0x1D ∷ byte ∷ []) ++ closing in
-    let closed = code_reads budget (third gl) d.work sixth (0x1B ∷ 0x2B ∷ []) 0x7D (code.Designated 3 code_sets.Mosaic) (sets_with gl) (rule_result d.work []) xs more end
+    let closed = code_reads budget (third gl) d.work sixth (0x1B ∷ 0x2B ∷ []) 0x7D (Code.Designated 3 CodeSet.Mosaic) (sets_with gl) (rule_result d.work []) xs more end
     tt (designates_mosaic gl) refl more_reads in
-    let drew = code_reads budget (third gl) work fourth (0x1D ∷ []) byte (code.Char chars.Drcs byte) (third gl) d closing more end tt (drcs_spelled gl byte graphic) by closed in
-    code_reads budget (sets_with gl) work n (0x1B ∷ 0x2B ∷ []) 0x7B (code.Designated 3 code_sets.Drcs) (third gl) (rule_result work []) shown (d.entries ++ more) end
+    let drew = code_reads budget (third gl) work fourth (0x1D ∷ []) byte (Code.Char CharSet.Drcs byte) (third gl) d closing more end tt (drcs_spelled gl byte graphic) by closed in
+    code_reads budget (sets_with gl) work n (0x1B ∷ 0x2B ∷ []) 0x7B (Code.Designated 3 CodeSet.Drcs) (third gl) (rule_result work []) shown (d.entries ++ more) end
     tt (designates_drcs gl) refl drew

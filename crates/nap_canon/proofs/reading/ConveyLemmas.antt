@@ -1,11 +1,8 @@
 -- The entries that pieces which join no run convey to a reader, and the work that they leave.
 
-use Rattle.nap_canon.proofs.Common.{Entry, GSet, IsAlone, IsGraphic, IsPlainCode, IsWord, List, MayFollowCode, Ok, Opcode, Piece, RuleResult, Spells, TextEnd, Work, [], append-nil, arith, char_piece, code_is_spelled, code_rule, control, domain, gl_of, left_out_opcode, opcode, opcode_rows, primary, refl, row_of, rule, rule_result, run_limit, subst, text_end_after, text_lengths, walk, word_byte, words_of, ℕ, ◌++◌, ◌<◌, ◌∷◌, ◌≡◌, ◌≤◌}
+use Rattle.nap_canon.proofs.Common.{CharSet, Entry, GSet, IsAlone, IsGraphic, IsPlainCode, IsWord, List, MayFollowCode, Ok, Opcode, Piece, RuleResult, Spells, TextEnd, Work, [], append-nil, arith, char_piece, code_is_spelled, code_rule, control, domain, gl_of, left_out_opcode, opcode, opcode_rows, primary, refl, row_of, rule, rule_result, run_limit, subst, text_end_after, text_lengths, walk, word_byte, words_of, ℕ, ◌++◌, ◌<◌, ◌∷◌, ◌≡◌, ◌≤◌}
 use Rattle.nap_codes.specs.declared.code.Code.{Code}
-use Rattle.nap_codes.specs.declared.code.Code.TheVariants as code
-use Rattle.nap_codes.specs.declared.code_set.CharSet.TheVariants as chars
 use Rattle.nap_codes.specs.declared.code_set.GSet.TheVariants.{G0, G1}
-use Rattle.nap_codes.specs.declared.opcode.Opcode.TheVariants as opcodes
 use Rattle.nap_codes.specs.Spelling as spells
 use Rattle.nap_canon.specs.declared.text_end.TextEnd.TheVariants.{NoRun}
 use Rattle.nap_canon.proofs.reading.AloneLemmas.{alone_acts, primary_acts, drcs_acts}
@@ -14,18 +11,18 @@ use Rattle.nap_canon.proofs.reading.PieceLemmas.{Acts, Begins, Names, sets_with,
 use Rattle.nap_canon.proofs.plain_codes.PlainPieces.{IsOpcode, PlainlySpelled, operand_codes, nothing_plain, codes_after_plain, opcode_plain, reset_plain, control_plain, primary_plain, drcs_plain}
 
 pub names : (byte : ℕ) (op : Opcode) → IsOpcode byte op → Names byte op
-names byte op is = (code_is_spelled (sets_with G1) (byte ∷ []) (code.Op op) 1 (sets_with G1)).1 (omega arith, spells.opcode refl is.0 is.1)
+names byte op is = (code_is_spelled (sets_with G1) (byte ∷ []) (Code.Op op) 1 (sets_with G1)).1 (omega arith, spells.opcode refl is.0 is.1)
 
 -- one piece
 pub data Conveys (work : Work) : Piece → List Entry → Work → Type 0 where
   -- an opcode with size bytes of operands
   by_opcode : (byte : ℕ) (op : Opcode) (bytes : List ℕ) (size : ℕ) (d : RuleResult) → IsOpcode byte op → AreOperands bytes size → size ≤ run_limit →
-      ((rest : List Code) → MayFollowCode (code.Op op) (operand_codes bytes ++ rest)) → rule work op (words_of bytes) ≡ Ok d → Conveys work (opcode byte bytes) d.entries d.work
+      ((rest : List Code) → MayFollowCode (Code.Op op) (operand_codes bytes ++ rest)) → rule work op (words_of bytes) ≡ Ok d → Conveys work (opcode byte bytes) d.entries d.work
   -- a control, which means the same whatever is in GL
   by_control : (byte : ℕ) (bytes : List ℕ) (c : Code) (d : RuleResult) → byte < 32 → IsAlone c → IsPlainCode c →
       ((gl : GSet) → Spells (sets_with gl) (byte ∷ bytes) c (sets_with gl)) → code_rule work c ≡ Ok d → Conveys work (control (byte ∷ bytes)) d.entries d.work
-  by_primary : (byte : ℕ) (d : RuleResult) → IsGraphic byte → code_rule work (code.Char chars.Primary byte) ≡ Ok d → Conveys work (primary byte) d.entries d.work
-  by_drcs : (byte : ℕ) (d : RuleResult) → IsGraphic byte → code_rule work (code.Char chars.Drcs byte) ≡ Ok d → Conveys work (char_piece chars.Drcs byte) d.entries d.work
+  by_primary : (byte : ℕ) (d : RuleResult) → IsGraphic byte → code_rule work (Code.Char CharSet.Primary byte) ≡ Ok d → Conveys work (primary byte) d.entries d.work
+  by_drcs : (byte : ℕ) (d : RuleResult) → IsGraphic byte → code_rule work (Code.Char CharSet.Drcs byte) ≡ Ok d → Conveys work (char_piece CharSet.Drcs byte) d.entries d.work
 
 piece_acts : (budget : ℕ) (gl : GSet) (work : Work) (p : Piece) (es : List Entry) (left : Work) → Conveys work p es left → Acts budget gl work (p ∷ []) es left
 piece_acts budget gl work p es left (by_opcode byte op bytes size d is are few comes by) =
@@ -35,7 +32,7 @@ piece_acts budget gl work p es left (by_primary byte d graphic by) = primary_act
 piece_acts budget gl work p es left (by_drcs byte d graphic by) = drcs_acts budget gl work byte d graphic by
 
 alone_comes : (c : Code) → IsAlone c → (rest : List Code) → MayFollowCode c rest
-alone_comes (code.Op op) alone rest = absurd alone
+alone_comes (Code.Op op) alone rest = absurd alone
 alone_comes _ alone rest = tt
 
 piece_plain : (t : TextEnd) (work : Work) (p : Piece) (es : List Entry) (left : Work) → Conveys work p es left → PlainlySpelled t (p ∷ [])
@@ -54,10 +51,10 @@ piece_begins t work p ps es left (by_drcs byte d graphic by) = omega arith
 pub data ConveyAll : Work → List Piece → List Entry → Work → Type 0 where
   nothing : {work : Work} → ConveyAll work [] [] work
   next : {work between left : Work} {p : Piece} {ps : List Piece} {es fs : List Entry} → Conveys work p es between → ConveyAll between ps fs left → ConveyAll work (p ∷ ps) (es ++ fs) left
-  resets : {work : Work} (first second : ℕ) (d : RuleResult) → IsWord first → IsWord second → rule work opcodes.Reset (words_of (word_byte first ∷ word_byte second ∷ [])) ≡ Ok d →
+  resets : {work : Work} (first second : ℕ) (d : RuleResult) → IsWord first → IsWord second → rule work Opcode.Reset (words_of (word_byte first ∷ word_byte second ∷ [])) ≡ Ok d →
       ConveyAll work (opcode 0x20 (word_byte first ∷ word_byte second ∷ []) ∷ domain [] ∷ []) (d.entries ++ []) (record d.work { domain = text_lengths })
 
-is_reset : IsOpcode 0x20 opcodes.Reset
+is_reset : IsOpcode 0x20 Opcode.Reset
 unfolding row_of opcode_rows left_out_opcode
 is_reset = (refl, refl, tt, omega arith)
 
@@ -65,7 +62,7 @@ is_reset = (refl, refl, tt, omega arith)
 pub lengths_convey : (work : Work) → Conveys work (domain []) [] (record work { domain = text_lengths })
 unfolding row_of opcode_rows left_out_opcode walk
 lengths_convey work =
-    by_opcode 0x21 opcodes.Domain (0x5F ∷ []) 1 (rule_result (record work { domain = text_lengths }) []) (refl, refl, tt, omega arith)
+    by_opcode 0x21 Opcode.Domain (0x5F ∷ []) 1 (rule_result (record work { domain = text_lengths }) []) (refl, refl, tt, omega arith)
     (word_bytes 31 [] 0 (omega arith) no_bytes) (omega arith) (λ rest. refl) (rw no_moves refl)
 
 -- Pieces begin so after any end of the text; no pieces convey nothing.
@@ -102,7 +99,7 @@ convey_act budget gl work ps es left (resets first second d one two by) =
     let bytes : List ℕ = word_byte first ∷ word_byte second ∷ [] in
     let are : AreOperands bytes 2 = word_bytes first (word_byte second ∷ []) 1 one (word_bytes second [] 0 two no_bytes) in
     acts_after budget gl (opcode 0x20 bytes ∷ []) (domain [] ∷ []) work d.work left d.entries [] (omega arith)
-    (opcode_acts budget gl work 0x20 bytes opcodes.Reset d (names 0x20 opcodes.Reset is_reset) are.carriers (omega (arith, are.size_is)) by)
+    (opcode_acts budget gl work 0x20 bytes Opcode.Reset d (names 0x20 Opcode.Reset is_reset) are.carriers (omega (arith, are.size_is)) by)
     (piece_acts budget G1 d.work (domain []) [] left (lengths_convey d.work))
 
 pub convey_plain : (t : TextEnd) (work : Work) (ps : List Piece) (es : List Entry) (left : Work) → ConveyAll work ps es left → PlainlySpelled t ps

@@ -1,8 +1,7 @@
 -- What a reader does with pieces of canonical text.
 
-use Rattle.nap_canon.proofs.Common.{All, CodeSets, Entry, GSet, IsOperandByte, List, Machine, Ok, Opcode, Piece, Placed, RuleResult, TextEnd, Work, [], ap, append-nil, append_assoc, arith, control, false, gl_of, group, is_operand_byte, joins_open_run, length, nat_tests, opcode, piece_bytes, pieces_bytes, pieces_bytes-append, placed_from, primary, refl, rule, rule_result, run_limit, shift_out, start_sets, subst, suc, sym, text_end_after, text_end_after-append, walk, ℕ, ⊤, ◌++◌, ◌+◌, ◌<◌, ◌∙◌, ◌∷◌, ◌≡◌, ◌≤◌}
+use Rattle.nap_canon.proofs.Common.{All, Code, CodeSets, Entry, GSet, IsOperandByte, List, Machine, Ok, Opcode, Piece, Placed, RuleResult, TextEnd, Work, [], ap, append-nil, append_assoc, arith, control, false, gl_of, group, is_operand_byte, joins_open_run, length, nat_tests, opcode, piece_bytes, pieces_bytes, pieces_bytes-append, placed_from, primary, refl, rule, rule_result, run_limit, shift_out, start_sets, subst, suc, sym, text_end_after, text_end_after-append, walk, ℕ, ⊤, ◌++◌, ◌+◌, ◌<◌, ◌∙◌, ◌∷◌, ◌≡◌, ◌≤◌}
 use Rattle.nap_values.specs.Spellings as spellings
-use Rattle.nap_codes.specs.declared.code.Code.TheVariants as code
 use Rattle.nap_codes.specs.declared.code_set.GSet.TheVariants.{G0, G1, G2, G3}
 use Rattle.nap_codes.specs.Front as codes
 use Rattle.nap_canon.specs.declared.text_end.TextEnd.TheVariants.{NoRun}
@@ -102,7 +101,7 @@ acts_after budget gl ps qs work between left es fs begins first second n xs more
 
 -- the byte is the opcode's
 abbrev pub Names : ℕ → Opcode → Type 0
-Names byte op = codes.front (sets_with G1) (byte ∷ []) ≡ codes.complete (code.Op op) 1 (sets_with G1)
+Names byte op = codes.front (sets_with G1) (byte ∷ []) ≡ codes.complete (Code.Op op) 1 (sets_with G1)
 
 opcode_in_gl : (budget : ℕ) (work : Work) (byte : ℕ) (operands : List ℕ) (op : Opcode) (d : RuleResult) → Names byte op → All IsOperandByte operands →
     length operands ≤ run_limit → rule work op (spellings.words_of operands) ≡ Ok d →
@@ -119,7 +118,7 @@ shifts_out : (budget : ℕ) (gl : GSet) (work : Work) (n : ℕ) (xs : List Place
     Reads (at budget G1 work) xs es end → Reads (at budget gl work) (placed_from n (0x0E ∷ []) ++ xs) es end
 unfolding walk
 shifts_out budget gl work n xs es end more_reads =
-    code_reads budget (sets_with gl) work n [] 0x0E code.Shifted (sets_with G1) (rule_result work []) xs es end tt shift_out refl more_reads
+    code_reads budget (sets_with gl) work n [] 0x0E Code.Shifted (sets_with G1) (rule_result work []) xs es end tt shift_out refl more_reads
 
 -- the opcode, after a shift if its set isn't in GL
 shifted_in : (budget : ℕ) (gl : GSet) (work : Work) (byte : ℕ) (operands : List ℕ) (n : ℕ) (xs : List Placed) (es : List Entry) (end : Machine) →

@@ -1,8 +1,7 @@
 -- Bytes with their places.
 
-use Rattle.nap_canon.proofs.Common.{All, IsOperandByte, IsRun, List, Machine, Opcode, Placed, [], ap, arith, between, bytes_of, carried_words, length, placed_from, refl, run_limit, subst, suc, sym, ℕ, ◌++◌, ◌+◌, ◌∙◌, ◌∷◌, ◌≡◌, ◌≤◌}
+use Rattle.nap_canon.proofs.Common.{All, Code, IsOperandByte, IsRun, List, Machine, Opcode, Placed, [], ap, arith, between, bytes_of, carried_words, length, placed_from, refl, run_limit, subst, suc, sym, ℕ, ◌++◌, ◌+◌, ◌∙◌, ◌∷◌, ◌≡◌, ◌≤◌}
 use Rattle.nap_values.specs.Spellings as spellings
-use Rattle.nap_codes.specs.declared.code.Code.TheVariants as code
 use Rattle.nap_codes.specs.Front as codes
 
 pub words_of-placed : (n : ℕ) (bytes : List ℕ) → carried_words (placed_from n bytes) ≡ spellings.words_of bytes
@@ -30,7 +29,7 @@ placed_from-append n (x ∷ xs) ys =
 
 -- an opcode and the bytes of its operands are a run
 pub spelled_run : (n : ℕ) (opcode : ℕ) (operands : List ℕ) (op : Opcode) (m : Machine) → m.mode ≡ between →
-    codes.front m.sets (opcode ∷ []) ≡ codes.complete (code.Op op) 1 m.sets → All IsOperandByte operands → length operands ≤ run_limit →
+    codes.front m.sets (opcode ∷ []) ≡ codes.complete (Code.Op op) 1 m.sets → All IsOperandByte operands → length operands ≤ run_limit →
     IsRun m op (record { byte = opcode; place = n }) (placed_from (suc n) operands)
 spelled_run n opcode operands op m mode names all few = record {
   mode = mode;

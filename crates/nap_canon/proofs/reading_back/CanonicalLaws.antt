@@ -1,7 +1,7 @@
 -- The laws of canonical streams: their text is read as the list, so they are equal exactly if the lists are.
 
 use Rattle.nap_canon.proofs.Common.{CanonicalStreamsAgree, Entry, Form, IsAccepted, IsCanonicalOf, IsPlain, IsReadAs, IsSome, List, None, OpenDefinition, OperandLengths, Option, Outcome, Some, TextIsRead, TextLeads, accepted_is_legal, ap, list_of, read_values_are_in_range, start, start_domain, subst, sym, text, text_lengths, walk, ℕ, ◌↔◌, ◌∙◌, ◌≡◌}
-use Rattle.nap_canon.specs.declared.form.Form.TheVariants.{Two}
+use Rattle.nap_canon.specs.declared.text.Form.TheVariants.{Two}
 use Rattle.nap_canon.proofs.reading_back.ListLemmas.{text_reads, means_text}
 use Rattle.nap_canon.proofs.spelling.SavedLemmas.{SavesLengths, saved_along, saves_along}
 use Rattle.nap_canon.proofs.plain_codes.PlainTexts.{text_is_plain}

@@ -1,12 +1,7 @@
 -- The text of a list is no longer than its text in form 1.
 
-use Rattle.nap_canon.proofs.Common.{Bool, CharSet, Command, Coordinates, Drawing, Entry, FormsAgree, GSet, List, Pen, Piece, Some, State, TextEnd, [], after, ap, append-nil, arith, attributes, char_piece, colour_prelude, command_piece, control, domain, entry_pieces, false, gl_of, grb_bytes, group, if◌then◌else◌, joins_open_run, length, length-append, line_piece, map, opcode, pieces, pieces_bytes, pieces_bytes-append, point_bytes, prelude, primary, refl, same_pen, shift_to_opcodes, spelling_pieces, start, sym, text, text_end_after, text_end_after-append, text_end_after_header, text_end_after_piece, true, with_attributes, ℕ, ⊤, ◌%◌, ◌++◌, ◌+◌, ◌==◌, ◌∙◌, ◌∷◌, ◌≡◌, ◌≤◌}
-use Rattle.nap_codes.specs.declared.code_set.CharSet.TheVariants as chars
-use Rattle.nap_list.specs.declared.attribute.Colour.TheVariants as colours
-use Rattle.nap_list.specs.declared.attribute.Pen.TheVariants as pens
-use Rattle.nap_list.specs.declared.entry.Entry.TheVariants as entries
-use Rattle.nap_canon.specs.declared.command.Command.TheVariants as commands
-use Rattle.nap_canon.specs.declared.form.Form.TheVariants.{One, Two}
+use Rattle.nap_canon.proofs.Common.{Bool, CharSet, Colour, Command, Coordinates, Drawing, Entry, FormsAgree, GSet, List, Pen, Piece, Some, State, TextEnd, [], after, ap, append-nil, arith, attributes, char_piece, colour_prelude, command_piece, control, domain, entry_pieces, false, gl_of, grb_bytes, group, if◌then◌else◌, joins_open_run, length, length-append, line_piece, map, opcode, pieces, pieces_bytes, pieces_bytes-append, point_bytes, prelude, primary, refl, same_pen, shift_to_opcodes, spelling_pieces, start, sym, text, text_end_after, text_end_after-append, text_end_after_header, text_end_after_piece, true, with_attributes, ℕ, ⊤, ◌%◌, ◌++◌, ◌+◌, ◌==◌, ◌∙◌, ◌∷◌, ◌≡◌, ◌≤◌}
+use Rattle.nap_canon.specs.declared.text.Form.TheVariants.{One, Two}
 use Rattle.nap_canon.proofs.reading_back.CanonicalLaws.{text_is_read}
 
 -- after the same set in GL, the first pieces have no more bytes than the others, and leave the same set
@@ -57,24 +52,24 @@ same_no_longer ps none t u same =
 
 commands_no_group : (cs : List Command) → NoGroup (map command_piece cs)
 commands_no_group [] = tt
-commands_no_group (commands.Named size ∷ cs) = commands_no_group cs
-commands_no_group (commands.Flag flag on ∷ cs) = commands_no_group cs
-commands_no_group (commands.PointSet p ∷ cs) = commands_no_group cs
-commands_no_group (commands.Pel m ∷ cs) = commands_no_group cs
-commands_no_group (commands.SelectBase ∷ cs) = commands_no_group cs
-commands_no_group (commands.SelectFront a ∷ cs) = commands_no_group cs
-commands_no_group (commands.SelectPair a b ∷ cs) = commands_no_group cs
-commands_no_group (commands.SetColor grb ∷ cs) = commands_no_group cs
-commands_no_group (commands.Texture word ∷ cs) = commands_no_group cs
-commands_no_group (commands.TextureMask word m ∷ cs) = commands_no_group cs
-commands_no_group (commands.Text first second ∷ cs) = commands_no_group cs
-commands_no_group (commands.TextSize first second m ∷ cs) = commands_no_group cs
+commands_no_group (Command.Named size ∷ cs) = commands_no_group cs
+commands_no_group (Command.Flag flag on ∷ cs) = commands_no_group cs
+commands_no_group (Command.PointSet p ∷ cs) = commands_no_group cs
+commands_no_group (Command.Pel m ∷ cs) = commands_no_group cs
+commands_no_group (Command.SelectBase ∷ cs) = commands_no_group cs
+commands_no_group (Command.SelectFront a ∷ cs) = commands_no_group cs
+commands_no_group (Command.SelectPair a b ∷ cs) = commands_no_group cs
+commands_no_group (Command.SetColor grb ∷ cs) = commands_no_group cs
+commands_no_group (Command.Texture word ∷ cs) = commands_no_group cs
+commands_no_group (Command.TextureMask word m ∷ cs) = commands_no_group cs
+commands_no_group (Command.Text first second ∷ cs) = commands_no_group cs
+commands_no_group (Command.TextSize first second m ∷ cs) = commands_no_group cs
 
 char_no_group : (set : CharSet) (code : ℕ) → NoGroup (char_piece set code ∷ [])
-char_no_group chars.Primary code = tt
-char_no_group chars.Supplementary code = tt
-char_no_group chars.Mosaic code = tt
-char_no_group chars.Drcs code = tt
+char_no_group CharSet.Primary code = tt
+char_no_group CharSet.Supplementary code = tt
+char_no_group CharSet.Mosaic code = tt
+char_no_group CharSet.Drcs code = tt
 
 again_no_group : (back : Bool) → NoGroup (if back then domain [] ∷ [] else [])
 again_no_group true = tt
@@ -82,11 +77,11 @@ again_no_group false = tt
 
 -- form 1 has no groups
 spelled_no_group : (d : Drawing) (e : Entry) → NoGroup (spelling_pieces One d e)
-spelled_no_group d (entries.Char set code hand) = char_no_group set code
-spelled_no_group d (entries.Map a grb) =
-    let cs : List Command = colour_prelude d.base d.colour (Some (colours.Front a)) in
+spelled_no_group d (Entry.Char set code hand) = char_no_group set code
+spelled_no_group d (Entry.Map a grb) =
+    let cs : List Command = colour_prelude d.base d.colour (Some (Colour.Front a)) in
     no_group_after (map command_piece cs) (opcode 0x3C (grb_bytes grb) ∷ []) (commands_no_group cs) tt
-spelled_no_group d (entries.Reset first second pen) = again_no_group (first % 2 == 1)
+spelled_no_group d (Entry.Reset first second pen) = again_no_group (first % 2 == 1)
 spelled_no_group d _ = tt
 
 -- a group has no more bytes than an opcode with as many operands or more
@@ -106,16 +101,16 @@ group_no_longer byte other operands more few t u same = (at (joins_open_run t by
         omega (arith, ap length mine, ap length theirs, length-append (shift_to_opcodes (gl_of u)) (other ∷ more), length-append (shift_to_opcodes (gl_of u)) (byte ∷ operands), few)
 
 line_no_longer : (pen : Pen) (from to : Coordinates) → NoLonger (line_piece Two pen from to ∷ []) (line_piece One pen from to ∷ [])
-line_no_longer pen from to = at (same_pen pen (pens.At from)) refl
+line_no_longer pen from to = at (same_pen pen (Pen.At from)) refl
   where
-    at : (same : Bool) → same_pen pen (pens.At from) ≡ same → NoLonger (line_piece Two pen from to ∷ []) (line_piece One pen from to ∷ [])
+    at : (same : Bool) → same_pen pen (Pen.At from) ≡ same → NoLonger (line_piece Two pen from to ∷ []) (line_piece One pen from to ∷ [])
     at true is = rw is (group_no_longer 0x28 0x2A (point_bytes to) (point_bytes from ++ point_bytes to) (omega (arith, length-append (point_bytes from) (point_bytes to))))
     at false is = rw is (group_no_longer 0x2A 0x2A (point_bytes from ++ point_bytes to) (point_bytes from ++ point_bytes to) (omega arith))
 
 spelled_no_longer : (d : Drawing) (e : Entry) → NoLonger (spelling_pieces Two d e) (spelling_pieces One d e)
-spelled_no_longer d (entries.Point at pel colour) = group_no_longer 0x26 0x26 (point_bytes at) (point_bytes at) (omega arith)
-spelled_no_longer d (entries.Line from to ink) = line_no_longer d.pen from to
-spelled_no_longer d (entries.Rect filled from to ink) = group_no_longer _ _ _ _ (omega arith)
+spelled_no_longer d (Entry.Point at pel colour) = group_no_longer 0x26 0x26 (point_bytes at) (point_bytes at) (omega arith)
+spelled_no_longer d (Entry.Line from to ink) = line_no_longer d.pen from to
+spelled_no_longer d (Entry.Rect filled from to ink) = group_no_longer _ _ _ _ (omega arith)
 spelled_no_longer d e = same_no_longer (spelling_pieces One d e) (spelled_no_group d e)
 
 entry_no_longer : (s : State) (e : Entry) → NoLonger (entry_pieces Two s e) (entry_pieces One s e)

@@ -1,7 +1,7 @@
 -- Bytes of which a prefix was taken.
 
 use Rattle.nap_canon.proofs.Common.{CutAfter, Keeps, List, Sending, Sends, SendsSome, [], ap, arith, drop, length, or-true, sending, sends_cut, sends_more, slice_index, subst, sym, take, take-append-drop, take_more, true, write_fails, ℕ, ◌++◌, ◌+◌, ◌<◌, ◌||◌, ◌∙◌, ◌∷◌, ◌≡◌}
-use Rattle.nap_list.specs.declared.device.outlet.Outlet as outlet
+use Rattle.nap_list.specs.declared.device.Outlet as outlet
 
 in_parts : (bytes : List ℕ) (n : ℕ) → n < length bytes → (take n bytes ++ slice_index bytes n ∷ []) ++ drop (n + 1) bytes ≡ bytes
 in_parts bytes n less = ap (λ (prefix : List ℕ). prefix ++ drop (n + 1) bytes) (sym (take_more bytes n 0 less)) ∙ take-append-drop (n + 1) bytes

@@ -1,20 +1,23 @@
 -- Entries that join the end of the text: all are written as equally many bytes, but for the opening before the first.
 
-use Rattle.nap_canon.proofs.Common.{AreCurrent, Batch, Bool, CharSet, Command, Coordinates, Drawing, EachIsCurrent, Entry, Err, Form, FormatEffector, Hand, Joins, List, None, Ok, Option, Parted, Pen, Piece, PointsJoin, Result, SentUpTo, SentWhole, Some, State, TextEnd, TextJoins, TextStep, [], after, ap, append-nil, append_assoc, arith, attributes, backward, batch_entries, command_piece, down, drop, entry_pieces, entry_size, false, false≢true, format_effector, format_effector_known, forward, gl_of, group, hand_of, home, ink_of, inl, inr, joinable_piece, joined_bytes, joins_open_run, last_point, length, length-append, length-drop, length-map, length-take-le, line_entry, line_piece, lines_count, lines_prefix, lines_rest, map, nat_tests, opening, piece_bytes, pieces, pieces_bytes, pieces_bytes-append, point_bytes, point_entry, points_bytes, points_prefix, points_rest, polyline_entries, refl, return, run_after, run_limit, run_opening, same_pen, shift_to_opcodes, shift_to_primary, spelling_pieces, step_bytes, subst, suc, sym, take, take-append-add, take-append-le, text_byte_piece, text_byte_piece_as, text_count, text_end_after, text_end_after-append, text_end_after_joined, text_end_after_piece, text_entries_in, text_entry, text_entry_as, text_prefix, true, up, walk, with_attributes, zero, ℕ, ⊤, ◌*◌, ◌++◌, ◌+◌, ◌-◌, ◌/◌, ◌<◌, ◌∙◌, ◌∷◌, ◌≡◌, ◌≤◌}
+use Rattle.nap_canon.proofs.Common.{AppendsNext, AppendsPieces, AreCurrent, Batch, Bool, CharSet, Command, Coordinates, Drawing, EachIsCurrent, Entry, Err, Form, FormatEffector, Hand, Joins, List, None, Ok, Option, Parted, Pen, Pending, Piece, PointsJoin, Result, SentUpTo, SentWhole, Some, SpellsNext, State, TextEnd, TextJoins, TextStep, [], after, ap, append-nil, append_assoc, arith, attributes, backward, batch_entries, command_piece, down, drop, entry_pieces, entry_size, false, false≢true, format_effector, format_effector_known, forward, gl_of, group, hand_of, home, ink_of, inl, inr, joinable_piece, joined_bytes, joins_open_run, last_point, length, length-append, length-drop, length-map, length-take-le, line_entry, line_piece, lines_count, lines_prefix, lines_rest, map, nat_tests, opening, piece_bytes, pieces, pieces_bytes, pieces_bytes-append, point_bytes, point_entry, points_bytes, points_prefix, points_rest, polyline_entries, refl, return, run_after, run_limit, run_opening, same_pen, shift_to_opcodes, shift_to_primary, spelling_pieces, step_bytes, subst, suc, sym, take, take-append-add, take-append-le, text_byte_piece, text_byte_piece_as, text_count, text_end_after, text_end_after-append, text_end_after_joined, text_end_after_piece, text_entries_in, text_entry, text_entry_as, text_prefix, true, up, walk, with_attributes, zero, ℕ, ⊤, ◌*◌, ◌++◌, ◌+◌, ◌-◌, ◌/◌, ◌<◌, ◌∙◌, ◌∷◌, ◌≡◌, ◌≤◌}
 use Rattle.nap_codes.specs.declared.code_set.CharSet.TheVariants.{Primary}
 use Rattle.nap_codes.specs.declared.code_set.GSet.TheVariants.{G0}
 use Rattle.nap_list.specs.declared.attribute.Pen.TheVariants.{At, After}
-use Rattle.nap_list.specs.declared.batch.Batch.TheVariants as batches
-use Rattle.nap_list.specs.declared.entry.Entry.TheVariants as entries
-use Rattle.nap_canon.specs.declared.form.Form.TheVariants.{Two}
+use Rattle.nap_canon.specs.declared.text.Form.TheVariants.{Two}
 use Rattle.nap_canon.specs.declared.text_end.TextEnd.TheVariants.{NoRun, InRun}
 use Rattle.nap_canon.proofs.texts.PointsLemmas.{point_size, points_size}
 use Rattle.nap_canon.proofs.reading.RunLemmas.{same_opcode, space_for}
 use Rattle.nap_canon.proofs.prelude.CurrentLemmas.{nothing_to_set}
 
 -- an entry whose attributes are current is written by its spelling alone
-pub alone : (form : Form) (s : State) (e : Entry) → AreCurrent (attributes e) s.drawing → entry_pieces form s e ≡ spelling_pieces form (with_attributes s.drawing (attributes e)) e
+alone : (form : Form) (s : State) (e : Entry) → AreCurrent (attributes e) s.drawing → entry_pieces form s e ≡ spelling_pieces form (with_attributes s.drawing (attributes e)) e
 alone form s e is = ap (λ (commands : List Command). map command_piece commands ++ spelling_pieces form (with_attributes s.drawing (attributes e)) e) (nothing_to_set (attributes e) s.drawing is)
+
+pub current_appended : (form : Form) (s : State) (list : List Entry) (w t : Pending) → EachIsCurrent s list → SpellsNext form s.drawing list w t → AppendsNext form s list w t
+unfolding EachIsCurrent
+current_appended form s list w t all_current spelled e es is =
+    subst (λ (ps : List Piece). AppendsPieces ps w t) (sym (alone form s e (subst (EachIsCurrent s) is all_current).0)) (spelled e es is)
 
 -- the bytes of an entry that is one piece, and the end of the text after it
 
@@ -26,40 +29,33 @@ one_after : (form : Form) (text_end : TextEnd) (s : State) (e : Entry) (piece : 
 unfolding text_end_after
 one_after form text_end s e piece is = ap (text_end_after text_end) is
 
--- the piece of the entry at an index of a batch, whose attributes are current
+-- the spelling of the entry at an index of a batch
 
-pub heads : (x y : Entry) (xs ys : List Entry) → x ∷ xs ≡ y ∷ ys → x ≡ y
-heads x y xs ys is = cc
+spelled_at : (form : Form) (d : Drawing) (list : List Entry) (x : Entry) (xs : List Entry) → x ∷ xs ≡ list → (e : Entry) (es : List Entry) → list ≡ e ∷ es →
+    spelling_pieces form (with_attributes d (attributes e)) e ≡ spelling_pieces form (with_attributes d (attributes x)) x
+spelled_at form d list x xs there e es is =
+    let heads : x ∷ xs ≡ e ∷ es = there ∙ is in
+    let same : e ≡ x = cc in
+    ap (λ (e : Entry). spelling_pieces form (with_attributes d (attributes e)) e) same
 
-first_of_current : (s : State) (list : List Entry) (e : Entry) (es : List Entry) → EachIsCurrent s list → list ≡ e ∷ es → AreCurrent (attributes e) s.drawing
-unfolding EachIsCurrent
-first_of_current s list e es all_current is = (subst (EachIsCurrent s) is all_current).0
+pub next_point : (form : Form) (d : Drawing) (batch : Batch) (points : _) (drawing : _) (index : ℕ) (p : Coordinates) (rest : List Coordinates) → batch ≡ Batch.Points points drawing →
+    drop index points.now ≡ p ∷ rest → (e : Entry) (es : List Entry) → drop index (batch_entries batch) ≡ e ∷ es →
+    spelling_pieces form (with_attributes d (attributes e)) e ≡ joinable_piece form 0x26 (point_bytes p) ∷ []
+next_point form d batch points drawing index p rest is at =
+    let held = drawing.now in
+    spelled_at form d (drop index (batch_entries batch)) (point_entry held p) (map (point_entry held) rest)
+    (ap (map (point_entry held)) (sym at) ∙ points_rest held points.now index ∙ ap (λ (b : Batch). drop index (batch_entries b)) (sym is))
 
--- the piece of the entry at an index is its spelling
-next_entry : (form : Form) (s : State) (list : List Entry) (x : Entry) (xs : List Entry) → x ∷ xs ≡ list → EachIsCurrent s list → (e : Entry) (es : List Entry) → list ≡ e ∷ es →
-    entry_pieces form s e ≡ spelling_pieces form (with_attributes s.drawing (attributes x)) x
-next_entry form s list x xs there all_current e es is =
-    subst (λ (e : Entry). AreCurrent (attributes e) s.drawing → entry_pieces form s e ≡ spelling_pieces form (with_attributes s.drawing (attributes x)) x) (heads x e xs es (there ∙ is)) (alone form s x)
-    (first_of_current s list e es all_current is)
-
-pub next_point : (form : Form) (s : State) (batch : Batch) (points : _) (drawing : _) (index : ℕ) (p : Coordinates) (rest : List Coordinates) → batch ≡ batches.Points points drawing →
-    drop index points.now ≡ p ∷ rest → EachIsCurrent s (drop index (batch_entries batch)) → (e : Entry) (es : List Entry) → drop index (batch_entries batch) ≡ e ∷ es →
-    entry_pieces form s e ≡ joinable_piece form 0x26 (point_bytes p) ∷ []
-next_point form s batch points drawing index p rest is at =
-    let d = drawing.now in
-    next_entry form s (drop index (batch_entries batch)) (point_entry d p) (map (point_entry d) rest)
-    (ap (map (point_entry d)) (sym at) ∙ points_rest d points.now index ∙ ap (λ (b : Batch). drop index (batch_entries b)) (sym is))
-
-pub next_line : (form : Form) (s : State) (batch : Batch) (from start : Coordinates) (points : _) (drawing : _) (index : ℕ) (p : Coordinates) (rest : List Coordinates) →
-    batch ≡ batches.Lines from points drawing → drop index points.now ≡ p ∷ rest → start ≡ last_point from (take index points.now) → EachIsCurrent s (drop index (batch_entries batch)) →
-    (e : Entry) (es : List Entry) → drop index (batch_entries batch) ≡ e ∷ es → entry_pieces form s e ≡ line_piece form s.drawing.pen start p ∷ []
+pub next_line : (form : Form) (d : Drawing) (batch : Batch) (from start : Coordinates) (points : _) (drawing : _) (index : ℕ) (p : Coordinates) (rest : List Coordinates) →
+    batch ≡ Batch.Lines from points drawing → drop index points.now ≡ p ∷ rest → start ≡ last_point from (take index points.now) →
+    (e : Entry) (es : List Entry) → drop index (batch_entries batch) ≡ e ∷ es → spelling_pieces form (with_attributes d (attributes e)) e ≡ line_piece form d.pen start p ∷ []
 unfolding polyline_entries
-next_line form s batch from start points drawing index p rest is at begins all_current e es list =
-    let d = drawing.now in
+next_line form d batch from start points drawing index p rest is at begins e es list =
+    let held = drawing.now in
     let q = last_point from (take index points.now) in
-    next_entry form s (drop index (batch_entries batch)) (line_entry d q p) (polyline_entries d p rest)
-    (ap (polyline_entries d q) (sym at) ∙ lines_rest d from points.now index ∙ ap (λ (b : Batch). drop index (batch_entries b)) (sym is)) all_current e es list
-    ∙ ap (λ (start : Coordinates). line_piece form s.drawing.pen start p ∷ []) (sym begins)
+    spelled_at form d (drop index (batch_entries batch)) (line_entry held q p) (polyline_entries held p rest)
+    (ap (polyline_entries held q) (sym at) ∙ lines_rest held from points.now index ∙ ap (λ (b : Batch). drop index (batch_entries b)) (sym is)) e es list
+    ∙ ap (λ (start : Coordinates). line_piece form d.pen start p ∷ []) (sym begins)
 
 -- the characters of a text from an index on, with the attributes that they have
 text_after : (set : CharSet) (hand : Hand) (codes : List ℕ) (n : ℕ) → (h : Hand) × (drop n (text_entries_in set hand codes) ≡ text_entries_in set h (drop n codes))
@@ -69,23 +65,23 @@ text_after set hand [] (suc n) = (hand, refl)
 text_after set hand (c ∷ cs) (suc n) = text_after set (record hand { pen = After }) cs n
 
 -- the spelling of a byte of a text
-pub typed_spelled : (form : Form) (d : Drawing) (set : CharSet) (hand : Hand) (code : ℕ) → spelling_pieces form d (text_entry set hand code) ≡ text_byte_piece set code ∷ []
+typed_spelled : (form : Form) (d : Drawing) (set : CharSet) (hand : Hand) (code : ℕ) → spelling_pieces form d (text_entry set hand code) ≡ text_byte_piece set code ∷ []
 typed_spelled form d set hand code = by (format_effector code)
   where
     by : (step : Option TextStep) → spelling_pieces form d (text_entry_as step set hand code) ≡ text_byte_piece_as step set code ∷ []
     by (Some step) = refl
     by None = refl
 
-pub next_typed : (form : Form) (s : State) (batch : Batch) (set : CharSet) (codes : _) (pen : Pen) (drawing : _) (index code : ℕ) (rest : List ℕ) →
-    batch ≡ batches.Text set codes pen drawing → drop index codes.now ≡ code ∷ rest → EachIsCurrent s (drop index (batch_entries batch)) →
-    (e : Entry) (es : List Entry) → drop index (batch_entries batch) ≡ e ∷ es → entry_pieces form s e ≡ text_byte_piece set code ∷ []
+pub next_typed : (form : Form) (d : Drawing) (batch : Batch) (set : CharSet) (codes : _) (pen : Pen) (drawing : _) (index code : ℕ) (rest : List ℕ) →
+    batch ≡ Batch.Text set codes pen drawing → drop index codes.now ≡ code ∷ rest → (e : Entry) (es : List Entry) → drop index (batch_entries batch) ≡ e ∷ es →
+    spelling_pieces form (with_attributes d (attributes e)) e ≡ text_byte_piece set code ∷ []
 unfolding text_entries_in
-next_typed form s batch set codes pen drawing index code rest is at all_current e es list =
+next_typed form d batch set codes pen drawing index code rest is at e es list =
     let next_end = text_after set (record (hand_of drawing.now) { pen = pen }) codes.now index in
     let x = text_entry set next_end.0 code in
-    next_entry form s (drop index (batch_entries batch)) x (text_entries_in set (record next_end.0 { pen = After }) rest)
-    (ap (text_entries_in set next_end.0) (sym at) ∙ sym next_end.1 ∙ ap (λ (b : Batch). drop index (batch_entries b)) (sym is)) all_current e es list
-    ∙ typed_spelled form (with_attributes s.drawing (attributes x)) set next_end.0 code
+    spelled_at form d (drop index (batch_entries batch)) x (text_entries_in set (record next_end.0 { pen = After }) rest)
+    (ap (text_entries_in set next_end.0) (sym at) ∙ sym next_end.1 ∙ ap (λ (b : Batch). drop index (batch_entries b)) (sym is)) e es list
+    ∙ typed_spelled form (with_attributes d (attributes x)) set next_end.0 code
 
 -- the bytes of entries that are one piece each
 
@@ -202,7 +198,7 @@ lines_each : (s : State) (d : Drawing) (from : Coordinates) (ps : List Coordinat
 unfolding EachPoint EachIsCurrent polyline_entries
 lines_each s d from [] pen all_current = tt
 lines_each s d from (p ∷ ps) pen all_current =
-    let e = entries.Line from p (ink_of d) in
+    let e = Entry.Line from p (ink_of d) in
     (alone Two s e all_current.0 ∙ ap (λ (piece : Piece). piece ∷ []) (line_from_pen s.drawing.pen from p pen), lines_each (after s e) d p ps refl all_current.1)
 
 -- primary characters while they are in GL, and moves among them
@@ -316,7 +312,7 @@ pub batch_joins : (form : Form) (text_end : TextEnd) (s : State) (batch : Batch)
     Joins form text_end s batch first count →
     Joined (length (opening text_end batch count) + entry_size batch) (entry_size batch) form text_end s (take count (drop first (batch_entries batch))) (opening text_end batch count ++ joined_bytes batch first count)
     (text_end_after_joined text_end batch count)
-batch_joins form text_end s (batches.Points points drawing) first count some few all_current joins =
+batch_joins form text_end s (Batch.Points points drawing) first count some few all_current joins =
     let d = drawing.now in
     let ps = points.now in
     let qs = take count (drop first ps) in
@@ -324,7 +320,7 @@ batch_joins form text_end s (batches.Points points drawing) first count some few
     let is : take count (drop first (map (point_entry d) ps)) ≡ map (point_entry d) qs = ap (take count) (sym (points_rest d ps first)) ∙ sym (points_prefix d (drop first ps) count) in
     let list_current = subst (EachIsCurrent s) is (prefix_current s (drop first (map (point_entry d) ps)) count all_current) in
     points_after form text_end s _ qs 0x26 count joins some size (subst (λ (list : List Entry). EachPoint 0x26 s list qs) (sym is) (points_each s d qs list_current))
-batch_joins form text_end s (batches.Lines from points drawing) first count some few all_current joins =
+batch_joins form text_end s (Batch.Lines from points drawing) first count some few all_current joins =
     let d = drawing.now in
     let ps = points.now in
     let p = last_point from (take first ps) in
@@ -333,7 +329,7 @@ batch_joins form text_end s (batches.Lines from points drawing) first count some
     let is : take count (drop first (polyline_entries d from ps)) ≡ polyline_entries d p qs = ap (take count) (sym (lines_rest d from ps first)) ∙ sym (lines_prefix d p (drop first ps) count) in
     let list_current = subst (EachIsCurrent s) is (prefix_current s (drop first (polyline_entries d from ps)) count all_current) in
     points_after form text_end s _ qs 0x28 count joins.0 some size (subst (λ (list : List Entry). EachPoint 0x28 s list qs) (sym is) (lines_each s d p qs joins.1 list_current))
-batch_joins form text_end s (batches.Text set codes pen drawing) first count some few all_current joins =
+batch_joins form text_end s (Batch.Text set codes pen drawing) first count some few all_current joins =
     let hand = record (hand_of drawing.now) { pen = pen } in
     let cs = take count (drop first codes.now) in
     let next_end = text_after set hand codes.now first in
@@ -415,13 +411,13 @@ each_prefix first_size size form text_end s (e ∷ es) (suc k) n each less whole
 -- the number of bytes of entries, and how many of them were written completely
 
 pub joined_length : (batch : Batch) (first count : ℕ) → count + first ≤ length (batch_entries batch) → length (joined_bytes batch first count) ≡ entry_size batch * count
-joined_length (batches.Points points drawing) first count few =
+joined_length (Batch.Points points drawing) first count few =
     points_size (take count (drop first points.now))
     ∙ ap (λ (n : ℕ). 8 * n) (length-take-le count (drop first points.now) (omega (arith, few, length-map points.now (point_entry drawing.now), length-drop first points.now)))
-joined_length (batches.Lines from points drawing) first count few =
+joined_length (Batch.Lines from points drawing) first count few =
     points_size (take count (drop first points.now))
     ∙ ap (λ (n : ℕ). 8 * n) (length-take-le count (drop first points.now) (omega (arith, few, lines_count drawing.now from points.now, length-drop first points.now)))
-joined_length (batches.Text set codes pen drawing) first count few =
+joined_length (Batch.Text set codes pen drawing) first count few =
     let all = text_count set (record (hand_of drawing.now) { pen = pen }) codes.now in
     omega (arith, length-take-le count (drop first codes.now) (omega (arith, few, all, length-drop first codes.now)))
 
@@ -434,17 +430,17 @@ module _ (begin : List ℕ) (batch : Batch) (first count n : ℕ) (few : count +
   whole_less = by batch fewer
     where
       by : (batch : Batch) → n < length begin + entry_size batch * count → (n - length begin) / entry_size batch < count
-      by (batches.Points points drawing) less = omega (arith, some, less)
-      by (batches.Lines from points drawing) less = omega (arith, some, less)
-      by (batches.Text set codes pen drawing) less = omega (arith, some, less)
+      by (Batch.Points points drawing) less = omega (arith, some, less)
+      by (Batch.Lines from points drawing) less = omega (arith, some, less)
+      by (Batch.Text set codes pen drawing) less = omega (arith, some, less)
 
   pub whole_of : Whole (length begin + entry_size batch) (entry_size batch) n ((n - length begin) / entry_size batch)
   whole_of = by batch
     where
       by : (batch : Batch) → Whole (length begin + entry_size batch) (entry_size batch) n ((n - length begin) / entry_size batch)
-      by (batches.Points points drawing) = record { from = λ some. omega (arith, some); to = omega arith }
-      by (batches.Lines from points drawing) = record { from = λ some. omega (arith, some); to = omega arith }
-      by (batches.Text set codes pen drawing) = record { from = λ some. omega (arith, some); to = omega arith }
+      by (Batch.Points points drawing) = record { from = λ some. omega (arith, some); to = omega arith }
+      by (Batch.Lines from points drawing) = record { from = λ some. omega (arith, some); to = omega arith }
+      by (Batch.Text set codes pen drawing) = record { from = λ some. omega (arith, some); to = omega arith }
 
 -- bytes are entries of one byte, after no opening
 pub whole_bytes : {S : Type 0} (sent : S → List ℕ → Bool → S → Type 0) (s t : S) (bytes : List ℕ) (r : Result (Unit {0}) ℕ) → SentUpTo sent s bytes t r → SentWhole sent s [] 1 bytes t r

@@ -1,8 +1,7 @@
 -- The text of a page in memory.
 
 use Rattle.nap_canon.proofs.Common.{Appends, Canonical, Entry, Err, Fault, Ghosts, IsCounted, IsRead, List, Option, RefusesPage, Some, StartsText, Took, [], ap, false, refl, refusal_of_text, subst, text, ℕ, ◌++◌, ◌∙◌, ◌≡◌}
-use Rattle.nap_list.specs.declared.device.outlet.Outlet as outlet
-use Rattle.nap_reader.specs.declared.fault.Fault.TheVariants as fault
+use Rattle.nap_list.specs.declared.device.Outlet as outlet
 use Rattle.nap_canon.proofs.sinks.SinkingLemmas.{sink_writes_text}
 
 -- the text that a sink wrote to an outlet that tells its bytes and had none
@@ -17,13 +16,13 @@ text_written o w s t begins works items tells empty d took =
 -- a page was refused whose text went into a sink that fails if memory runs out
 pub refuses_page : {S : Type 0} (g : Ghosts S) (s : S) (budget : ℕ) (p : List ℕ) (f : Fault) (place : ℕ) → IsCounted g s budget p (Err (record { fault = f; place = place })) →
     RefusesPage budget p (refusal_of_text (record { fault = f; place = place }))
-refuses_page g s budget p fault.Memory place h = record { refused = λ no. absurd (no refl); memory = λ _. h.counts.0 }
-refuses_page g s budget p fault.Sink place h = record { refused = λ no. absurd (no refl); memory = λ _. h.counts.0 }
+refuses_page g s budget p Fault.Memory place h = record { refused = λ no. absurd (no refl); memory = λ _. h.counts.0 }
+refuses_page g s budget p Fault.Sink place h = record { refused = λ no. absurd (no refl); memory = λ _. h.counts.0 }
 refuses_page g s budget p f place h = record { refused = λ _. h.counts; memory = λ is. let bad : ⊥ = cc in absurd bad }
 
 -- a page was refused whose entries went into a sink that can't fail
 pub refuses_counted : {S : Type 0} (g : Ghosts S) (s : S) (sound : (t : S) → g.failed t ≡ false) (budget : ℕ) (p : List ℕ) (f : Fault) (place : ℕ) →
     IsRead g s budget p (Err (record { fault = f; place = place })) → RefusesPage budget p (record { fault = f; place = place })
-refuses_counted g s sound budget p fault.Memory place h = record { refused = λ no. absurd (no refl); memory = λ _. h.collects.0 }
-refuses_counted g s sound budget p fault.Sink place h = let (breaks, (t, failed, took)) = h.collects in cc (sound t)
+refuses_counted g s sound budget p Fault.Memory place h = record { refused = λ no. absurd (no refl); memory = λ _. h.collects.0 }
+refuses_counted g s sound budget p Fault.Sink place h = let (breaks, (t, failed, took)) = h.collects in cc (sound t)
 refuses_counted g s sound budget p f place h = record { refused = λ _. h.collects; memory = λ is. let bad : ⊥ = cc in absurd bad }

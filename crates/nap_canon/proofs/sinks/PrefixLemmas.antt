@@ -1,6 +1,6 @@
 -- Entries that are one write: those that join the end of the text, and an entry with those that join after it.
 
-use Rattle.nap_canon.proofs.Common.{AppendsNext, Batch, Bool, Coordinates, CutAfter, CutsPrefix, Drawing, EachIsCurrent, Entry, Err, Form, Joins, JoinsAfter, List, Ok, Parted, Pending, Result, State, TextEnd, Writer, WritesPrefix, WritesWhole, [], after, ap, arith, batch_entries, bytes_of_rest, drop, drop-drop, entry_pieces, entry_size, false, joined_bytes, last_point, length, length-append, length-drop, length-take-le, opening, pieces, pieces_bytes, pieces_bytes-append, polyline_entries, refl, subst, suc, sym, take, text_end_after, text_end_after-append, text_end_after_joined, text_end_after_rest, walk, zero, ℕ, ◌*◌, ◌++◌, ◌+◌, ◌-◌, ◌/◌, ◌<◌, ◌∙◌, ◌∷◌, ◌≡◌, ◌≤◌}
+use Rattle.nap_canon.proofs.Common.{AppendsNext, Batch, Bool, Coordinates, CutAfter, Drawing, EachIsCurrent, Entry, Err, Form, Joins, JoinsAfter, List, Ok, Parted, Pending, Piece, PutsPrefix, RestIsCurrent, Result, SendsPartly, SendsWholly, State, TextEnd, Writer, WritesWhole, [], after, ap, arith, batch_entries, bytes_of_rest, drop, drop-drop, entry_pieces, entry_size, false, joined_bytes, last_point, length, length-append, length-drop, length-take-le, opening, pieces, pieces_bytes, pieces_bytes-append, polyline_entries, refl, subst, suc, sym, take, text_end_after, text_end_after-append, text_end_after_joined, text_end_after_rest, walk, zero, ℕ, ◌*◌, ◌++◌, ◌+◌, ◌-◌, ◌/◌, ◌<◌, ◌∙◌, ◌∷◌, ◌≡◌, ◌≤◌}
 use Rattle.nap_list.specs.declared.attribute.Pen.TheVariants.{At}
 use Rattle.nap_canon.proofs.sinks.JoinLemmas.{Joined, batch_joins, each_prefix, joined_length, parted_after, parted_first, whole_less, whole_of}
 
@@ -29,17 +29,19 @@ module _ {T F : Type 0} (sends : T → List ℕ → Bool → T → Type 0) (w v 
   within_list : count ≤ length from
   within_list = omega (arith, few, length-drop first (batch_entries batch))
 
-  pub joined_whole : {x : Unit {0}} → Wrote (Ok x) → (s : State) → s ≡ walk v.state (take count from) → WritesPrefix sends from w (record v { state = s }) count
+  pub joined_whole : {x : Unit {0}} → Wrote (Ok x) → (s : State) → s ≡ walk v.state (take count from) → PutsPrefix sends from w (record v { state = s }) (Ok count)
   joined_whole put s is = record {
-    some = some;
-    few = within_list;
-    sent = subst (λ (bs : List ℕ). sends w.target bs false v.target) (sym as_joined.writes) put.sent;
-    text_end = put.text_end ∙ sym as_joined.ends;
+    sent = record {
+      some = some;
+      few = within_list;
+      sent = subst (λ (bs : List ℕ). sends w.target bs false v.target) (sym as_joined.writes) put.sent;
+      ends = put.text_end ∙ sym as_joined.ends;
+    };
     form = put.kept.0;
     state = is ∙ ap (λ (s : State). walk s (take count from)) put.kept.1;
   }
 
-  pub joined_cut : (k : ℕ) → Wrote (Err k) → (s : State) → s ≡ walk v.state (take k from) → CutsPrefix sends from w (record v { state = s }) k
+  pub joined_cut : (k : ℕ) → Wrote (Err k) → (s : State) → s ≡ walk v.state (take k from) → PutsPrefix sends from w (record v { state = s }) (Err k)
   joined_cut k put s is =
       let n : ℕ = put.sent.0 in
       let cut : CutAfter sends w.target sent_bytes n v.target = put.sent.2 in
@@ -49,12 +51,15 @@ module _ {T F : Type 0} (sends : T → List ℕ → Bool → T → Type 0) (w v 
       each_prefix (length opens + each_size) each_size w.form w.pending.text_end w.state (take count from) j n as_joined.each (omega (arith, some_whole, length-take-le count from within_list))
       (whole_of opens batch first count n few some cut.less) in
       record {
-        count = count;
-        few = within_list;
-        less = omega (arith, some_whole, put.sent.1);
-        far = n;
-        cut = subst (λ (bs : List ℕ). CutAfter sends w.target bs n v.target) (sym as_joined.writes) cut;
-        parted = subst (λ (k : ℕ). Parted w.form w.pending.text_end w.state (take count from) k n) (sym put.sent.1) parted;
+        sent = record {
+          count = count;
+          few = within_list;
+          less = omega (arith, some_whole, put.sent.1);
+          far = n;
+          cut = subst (λ (bs : List ℕ). CutAfter sends w.target bs n v.target) (sym as_joined.writes) cut;
+          parted = subst (λ (k : ℕ). Parted w.form w.pending.text_end w.state (take count from) k n) (sym put.sent.1) parted;
+        };
+        form = put.kept.0;
         state = is ∙ ap (λ (s : State). walk s (take k from)) put.kept.1;
       }
 
@@ -98,222 +103,170 @@ pub begins : (list : List Entry) → 0 < length list → Begins list
 begins [] some = absurd (omega (arith, some))
 begins (e ∷ es) some = record { first = e; rest = es; is = refl }
 
-cut_at : (n l b j m total : ℕ) → total ≡ l + (b + j) → j ≡ m → n - (total - m) ≡ (n - l) - b
-cut_at n l b j m total is size = omega (arith, is, size)
-
 -- the attributes of the entries after one are current, if those of all are
-pub then_current : (s : State) (batch : Batch) (index : ℕ) → EachIsCurrent s (drop index (batch_entries batch)) → (e : Entry) (es : List Entry) → drop index (batch_entries batch) ≡ e ∷ es →
-    EachIsCurrent (after s e) (drop (index + 1) (batch_entries batch))
+pub then_current : (s : State) (list : List Entry) → EachIsCurrent s list → RestIsCurrent s list
 unfolding EachIsCurrent
-then_current s batch index all_current e es at =
-    subst (EachIsCurrent (after s e)) (sym (ap (drop 1) at) ∙ drop-drop 1 index (batch_entries batch)) (subst (EachIsCurrent s) at all_current).1
+then_current s list all_current e es at = (subst (EachIsCurrent s) at all_current).1
 
-module _ (form : Form) (text_end : TextEnd) (s : State) (batch : Batch) (index more : ℕ) (e : Entry) (es : List Entry) (at : drop index (batch_entries batch) ≡ e ∷ es)
-    (next_current : EachIsCurrent (after s e) (drop (index + 1) (batch_entries batch))) (few : more + (index + 1) ≤ length (batch_entries batch))
-    (joins : 0 < more → JoinsAfter form (text_end_after text_end (entry_pieces form s e)) batch index more) where
-  abbrev own_bytes : List ℕ
-  own_bytes = pieces_bytes text_end (entry_pieces form s e)
+-- what was sent of a batch from one entry on, which was appended with those that join after it
 
-  abbrev next : TextEnd
-  next = text_end_after text_end (entry_pieces form s e)
+module _ (form : Form) (s : State) (batch : Batch) (index more : ℕ) (some : index < length (batch_entries batch)) (rest_current : RestIsCurrent s (drop index (batch_entries batch)))
+    (few : more + (index + 1) ≤ length (batch_entries batch)) (before : Pending) (none : before.bytes ≡ []) (r : Pending) (appended : AppendsNext form s (drop index (batch_entries batch)) before r)
+    (joins : 0 < more → JoinsAfter form r.text_end batch index more) (u : Pending) (bytes : u.bytes ≡ r.bytes ++ bytes_of_rest r.text_end batch (index + 1) more)
+    (ends : u.text_end ≡ text_end_after_rest r.text_end batch more) where
+  abbrev begins_with : Begins (drop index (batch_entries batch))
+  begins_with = begins (drop index (batch_entries batch)) (omega (arith, some, length-drop index (batch_entries batch)))
+
+  abbrev e : Entry
+  e = begins_with.first
 
   abbrev those : List Entry
   those = take (more + 1) (drop index (batch_entries batch))
 
-  abbrev rest_bytes : List ℕ
-  rest_bytes = bytes_of_rest next batch (index + 1) more
+  abbrev others : List Entry
+  others = take more begins_with.rest
+
+  abbrev own : List Piece
+  own = entry_pieces form s e
 
   abbrev size : ℕ
   size = entry_size batch
 
-  rest_is : drop (index + 1) (batch_entries batch) ≡ es
-  rest_is = sym (drop-drop 1 index (batch_entries batch)) ∙ ap (drop 1) at
+  rest_is : drop (index + 1) (batch_entries batch) ≡ begins_with.rest
+  rest_is = sym (drop-drop 1 index (batch_entries batch)) ∙ ap (drop 1) begins_with.is
 
-  those_are : those ≡ e ∷ take more es
+  those_are : those ≡ e ∷ others
   those_are =
-      ap (take (more + 1)) at
-      ∙ (let next : more + 1 ≡ suc more = omega arith in ap (λ (n : ℕ). take n (e ∷ es)) next)
+      ap (take (more + 1)) begins_with.is
+      ∙ (let next : more + 1 ≡ suc more = omega arith in ap (λ (n : ℕ). take n (e ∷ begins_with.rest)) next)
+
+  own_appended : r.bytes ≡ pieces_bytes before.text_end own
+  own_appended = (appended e begins_with.rest begins_with.is).appended ∙ ap (λ (bs : List ℕ). bs ++ pieces_bytes before.text_end own) none
+
+  own_ends : r.text_end ≡ text_end_after before.text_end own
+  own_ends = (appended e begins_with.rest begins_with.is).text_end
 
   left : walk s (take 1 (drop index (batch_entries batch))) ≡ after s e
   unfolding walk
-  left = ap (λ (list : List Entry). walk s (take 1 list)) at
+  left = ap (λ (list : List Entry). walk s (take 1 list)) begins_with.is
 
-  joined : 0 < more → Joined (length (opening next batch more) + size) size form next (after s e) (take more es) (opening next batch more ++ joined_bytes batch (index + 1) more)
-      (text_end_after_joined next batch more)
+  joined : 0 < more → Joined (length (opening r.text_end batch more) + size) size form r.text_end (after s e) others (opening r.text_end batch more ++ joined_bytes batch (index + 1) more)
+      (text_end_after_joined r.text_end batch more)
   joined some =
-      subst (λ (list : List Entry). Joined (length (opening next batch more) + size) size form next (after s e) (take more list) (opening next batch more ++ joined_bytes batch (index + 1) more)
-      (text_end_after_joined next batch more)) rest_is
-      (batch_joins form next (after s e) batch (index + 1) more some few next_current (subst (λ (u : State). Joins form next u batch (index + 1) more) left (joins some s)))
+      subst (λ (list : List Entry). Joined (length (opening r.text_end batch more) + size) size form r.text_end (after s e) (take more list) (opening r.text_end batch more ++ joined_bytes batch (index + 1) more)
+      (text_end_after_joined r.text_end batch more)) rest_is
+      (batch_joins form r.text_end (after s e) batch (index + 1) more some few (subst (EachIsCurrent (after s e)) (sym rest_is) (rest_current e begins_with.rest begins_with.is))
+      (subst (λ (u : State). Joins form r.text_end u batch (index + 1) more) left (joins some s)))
 
-  rest_written : pieces_bytes next (pieces form (after s e) (take more es)) ≡ rest_bytes
+  rest_written : pieces_bytes r.text_end (pieces form (after s e) others) ≡ bytes_of_rest r.text_end batch (index + 1) more
   unfolding pieces pieces_bytes
   rest_written = by more refl
     where
-      by : (n : ℕ) → n ≡ more → pieces_bytes next (pieces form (after s e) (take n es)) ≡ bytes_of_rest next batch (index + 1) n
+      by : (n : ℕ) → n ≡ more → pieces_bytes r.text_end (pieces form (after s e) (take n begins_with.rest)) ≡ bytes_of_rest r.text_end batch (index + 1) n
       by zero is = refl
       by (suc n) is =
-          subst (λ (m : ℕ). pieces_bytes next (pieces form (after s e) (take m es)) ≡ opening next batch m ++ joined_bytes batch (index + 1) m) (sym is)
+          subst (λ (m : ℕ). pieces_bytes r.text_end (pieces form (after s e) (take m begins_with.rest)) ≡ opening r.text_end batch m ++ joined_bytes batch (index + 1) m) (sym is)
           (joined (omega (arith, is))).writes
 
-  rest_ended : text_end_after next (pieces form (after s e) (take more es)) ≡ text_end_after_rest next batch more
+  rest_ended : text_end_after r.text_end (pieces form (after s e) others) ≡ text_end_after_rest r.text_end batch more
   unfolding pieces text_end_after
   rest_ended = by more refl
     where
-      by : (n : ℕ) → n ≡ more → text_end_after next (pieces form (after s e) (take n es)) ≡ text_end_after_rest next batch n
+      by : (n : ℕ) → n ≡ more → text_end_after r.text_end (pieces form (after s e) (take n begins_with.rest)) ≡ text_end_after_rest r.text_end batch n
       by zero is = refl
       by (suc n) is =
-          subst (λ (m : ℕ). text_end_after next (pieces form (after s e) (take m es)) ≡ text_end_after_joined next batch m) (sym is) (joined (omega (arith, is))).ends
+          subst (λ (m : ℕ). text_end_after r.text_end (pieces form (after s e) (take m begins_with.rest)) ≡ text_end_after_joined r.text_end batch m) (sym is) (joined (omega (arith, is))).ends
 
-  pub prefix_written : own_bytes ++ rest_bytes ≡ pieces_bytes text_end (pieces form s those)
+  all_written : u.bytes ≡ pieces_bytes before.text_end (pieces form s those)
   unfolding pieces
-  prefix_written =
-      ap (λ (bs : List ℕ). own_bytes ++ bs) (sym rest_written)
-      ∙ sym (pieces_bytes-append text_end (entry_pieces form s e) (pieces form (after s e) (take more es)))
-      ∙ ap (λ (list : List Entry). pieces_bytes text_end (pieces form s list)) (sym those_are)
-
-  pub prefix_ends : text_end_after_rest next batch more ≡ text_end_after text_end (pieces form s those)
-  unfolding pieces
-  prefix_ends =
-      sym rest_ended
-      ∙ sym (text_end_after-append text_end (entry_pieces form s e) (pieces form (after s e) (take more es)))
-      ∙ ap (λ (list : List Entry). text_end_after text_end (pieces form s list)) (sym those_are)
-
-  pub prefix_none : (n : ℕ) → n < length own_bytes → Parted form text_end s those 0 n
-  prefix_none n less = subst (λ (list : List Entry). Parted form text_end s list 0 n) (sym those_are) (parted_first form text_end s e (take more es) n less)
-
-  module _ (n k : ℕ) (low : length own_bytes ≤ n) (less : n < length (own_bytes ++ rest_bytes)) (is : k ≡ (n - (length (own_bytes ++ rest_bytes) - size * more)) / size) where
-    some : 0 < more
-    some = by more refl
-      where
-        by : (m : ℕ) → m ≡ more → 0 < more
-        by zero zero_is =
-            let none : length (bytes_of_rest next batch (index + 1) more) ≡ 0 = ap (λ (m : ℕ). length (bytes_of_rest next batch (index + 1) m)) (sym zero_is) in
-            absurd (omega (arith, low, less, length-append own_bytes rest_bytes, none))
-        by (suc m) is = omega (arith, is)
-
-    abbrev begin : List ℕ
-    begin = opening next batch more
-
-    abbrev bytes : List ℕ
-    bytes = begin ++ joined_bytes batch (index + 1) more
-
-    lengths : length (own_bytes ++ rest_bytes) ≡ length own_bytes + length bytes
-    lengths = length-append own_bytes rest_bytes ∙ ap (λ (bs : List ℕ). length own_bytes + length bs) (rest_some next batch (index + 1) more some)
-
-    within : n - length own_bytes < length bytes
-    within = omega (arith, low, less, lengths)
-
-    same : k ≡ ((n - length own_bytes) - length begin) / size
-    same =
-        is
-        ∙ ap (λ (m : ℕ). m / size)
-        (cut_at n (length own_bytes) (length begin) (length (joined_bytes batch (index + 1) more)) (size * more) (length (own_bytes ++ rest_bytes))
-        (lengths ∙ ap (λ (m : ℕ). length own_bytes + m) (length-append begin (joined_bytes batch (index + 1) more))) (joined_length batch (index + 1) more few))
-
-    pub prefix_less : k < more
-    prefix_less = subst (λ (k : ℕ). k < more) (sym same) (whole_less begin batch (index + 1) more (n - length own_bytes) few some within)
-
-    pub prefix_parted : Parted form text_end s those (k + 1) n
-    prefix_parted =
-        let many : length (take more es) ≡ more = length-take-le more es (omega (arith, few, ap length rest_is, length-drop (index + 1) (batch_entries batch))) in
-        let j : ℕ = ((n - length own_bytes) - length begin) / size in
-        let part : Parted form next (after s e) (take more es) j (n - length own_bytes) =
-        each_prefix (length begin + size) size form next (after s e) (take more es) j (n - length own_bytes) (joined some).each
-        (omega (arith, many, whole_less begin batch (index + 1) more (n - length own_bytes) few some within)) (whole_of begin batch (index + 1) more (n - length own_bytes) few some within) in
-        let here : Parted form text_end s (e ∷ take more es) (suc j) n = parted_after form text_end s e (take more es) j n (n - length own_bytes) (omega (arith, low)) part in
-        let count : suc j ≡ k + 1 = omega (arith, same) in
-        subst (λ (list : List Entry). Parted form text_end s list (k + 1) n) (sym those_are) (subst (λ (m : ℕ). Parted form text_end s (e ∷ take more es) m n) count here)
-
--- what a writer put of a batch from one entry on, which was appended with those that join after it
-
-module _ {T F : Type 0} (sends : T → List ℕ → Bool → T → Type 0) (w : Writer T F) (batch : Batch) (index more : ℕ) (some : 0 < length (drop index (batch_entries batch)))
-    (rest_current : (e : Entry) (es : List Entry) → drop index (batch_entries batch) ≡ e ∷ es → EachIsCurrent (after w.state e) (drop (index + 1) (batch_entries batch)))
-    (few : more + (index + 1) ≤ length (batch_entries batch)) (clear : List ℕ) (none : clear ≡ []) (r : Pending)
-    (appended : AppendsNext w.form w.state (drop index (batch_entries batch)) (record { text_end = w.pending.text_end; bytes = clear }) r) (joins : 0 < more → JoinsAfter w.form r.text_end batch index more)
-    (u : Pending) (bytes : u.bytes ≡ r.bytes ++ bytes_of_rest r.text_end batch (index + 1) more) (ends : u.text_end ≡ text_end_after_rest r.text_end batch more) where
-  abbrev list : List Entry
-  list = drop index (batch_entries batch)
-
-  abbrev begins_with : Begins list
-  begins_with = begins list some
-
-  own_current : EachIsCurrent (after w.state begins_with.first) (drop (index + 1) (batch_entries batch))
-  own_current = rest_current begins_with.first begins_with.rest begins_with.is
-
-  abbrev own : List ℕ
-  own = pieces_bytes w.pending.text_end (entry_pieces w.form w.state begins_with.first)
-
-  abbrev after_own : TextEnd
-  after_own = text_end_after w.pending.text_end (entry_pieces w.form w.state begins_with.first)
-
-  own_appended : r.bytes ≡ own
-  own_appended = (appended begins_with.first begins_with.rest begins_with.is).appended ∙ ap (λ (bs : List ℕ). bs ++ own) none
-
-  own_ends : r.text_end ≡ after_own
-  own_ends = (appended begins_with.first begins_with.rest begins_with.is).text_end
-
-  joins_own : 0 < more → JoinsAfter w.form after_own batch index more
-  joins_own h = subst (λ (t : TextEnd). JoinsAfter w.form t batch index more) own_ends (joins h)
-
-  all_appended : u.bytes ≡ own ++ bytes_of_rest after_own batch (index + 1) more
-  all_appended =
+  all_written =
       bytes
       ∙ ap (λ (bs : List ℕ). bs ++ bytes_of_rest r.text_end batch (index + 1) more) own_appended
-      ∙ ap (λ (t : TextEnd). own ++ bytes_of_rest t batch (index + 1) more) own_ends
+      ∙ ap (λ (bs : List ℕ). pieces_bytes before.text_end own ++ bs) (sym rest_written)
+      ∙ ap (λ (t : TextEnd). pieces_bytes before.text_end own ++ pieces_bytes t (pieces form (after s e) others)) own_ends
+      ∙ sym (pieces_bytes-append before.text_end own (pieces form (after s e) others))
+      ∙ ap (λ (list : List Entry). pieces_bytes before.text_end (pieces form s list)) (sym those_are)
 
-  all_written : u.bytes ≡ pieces_bytes w.pending.text_end (pieces w.form w.state (take (more + 1) list))
-  all_written = all_appended ∙ prefix_written w.form w.pending.text_end w.state batch index more begins_with.first begins_with.rest begins_with.is own_current few joins_own
+  all_ended : u.text_end ≡ text_end_after before.text_end (pieces form s those)
+  unfolding pieces
+  all_ended =
+      ends
+      ∙ sym rest_ended
+      ∙ ap (λ (t : TextEnd). text_end_after t (pieces form (after s e) others)) own_ends
+      ∙ sym (text_end_after-append before.text_end own (pieces form (after s e) others))
+      ∙ ap (λ (list : List Entry). text_end_after before.text_end (pieces form s list)) (sym those_are)
 
-  enough : more + 1 ≤ length list
+  enough : more + 1 ≤ length (drop index (batch_entries batch))
   enough = omega (arith, few, length-drop index (batch_entries batch))
 
-  pub puts_whole : (to : T) → sends w.target u.bytes false to → (s : State) → s ≡ walk w.state (take (more + 1) list) →
-      WritesPrefix sends list w (record { target = to; form = w.form; pending = u; state = s }) (more + 1)
-  puts_whole to sent s is = record {
-    some = omega arith;
-    few = enough;
-    sent = subst (λ (bs : List ℕ). sends w.target bs false to) all_written sent;
-    text_end =
-        ends
-        ∙ ap (λ (t : TextEnd). text_end_after_rest t batch more) own_ends
-        ∙ prefix_ends w.form w.pending.text_end w.state batch index more begins_with.first begins_with.rest begins_with.is own_current few joins_own;
-    form = refl;
-    state = is;
-  }
+  module _ {T : Type 0} (sends : T → List ℕ → Bool → T → Type 0) (from to : T) where
+    pub sends_whole : sends from u.bytes false to → SendsWholly sends form s (drop index (batch_entries batch)) before.text_end from u.text_end to (more + 1)
+    sends_whole sent = record { some = omega arith; few = enough; sent = subst (λ (bs : List ℕ). sends from bs false to) all_written sent; ends = all_ended }
 
-  module _ (to : T) (n : ℕ) (cut : CutAfter sends w.target u.bytes n to) where
-    pub puts_none : n < length r.bytes → CutsPrefix sends list w (record { target = to; form = w.form; pending = u; state = w.state }) 0
-    unfolding walk
-    puts_none less = record {
-      count = more + 1;
-      few = enough;
-      less = omega arith;
-      far = n;
-      cut = subst (λ (bs : List ℕ). CutAfter sends w.target bs n to) all_written cut;
-      parted = prefix_none w.form w.pending.text_end w.state batch index more begins_with.first begins_with.rest begins_with.is own_current few joins_own n (omega (arith, less, ap length own_appended));
-      state = refl;
-    }
-
-    module _ (k : ℕ) (low : length r.bytes ≤ n) (is : k ≡ (n - (length u.bytes - entry_size batch * more)) / entry_size batch) where
-      low_own : length own ≤ n
-      low_own = omega (arith, low, ap length own_appended)
-
-      within_all : n < length (own ++ bytes_of_rest after_own batch (index + 1) more)
-      within_all = omega (arith, cut.less, ap length all_appended)
-
-      counted : k ≡ (n - (length (own ++ bytes_of_rest after_own batch (index + 1) more) - entry_size batch * more)) / entry_size batch
-      counted = is ∙ ap (λ (bs : List ℕ). (n - (length bs - entry_size batch * more)) / entry_size batch) all_appended
-
-      pub puts_less : k < more
-      puts_less = prefix_less w.form w.pending.text_end w.state batch index more begins_with.first begins_with.rest begins_with.is own_current few joins_own n k low_own within_all counted
-
-      pub puts_cut : (s : State) → s ≡ walk w.state (take (k + 1) list) → CutsPrefix sends list w (record { target = to; form = w.form; pending = u; state = s }) (k + 1)
-      puts_cut s state = record {
+    module _ (n : ℕ) (cut : CutAfter sends from u.bytes n to) where
+      pub sends_none : n < length r.bytes → SendsPartly sends form s (drop index (batch_entries batch)) before.text_end from to 0
+      sends_none less = record {
         count = more + 1;
         few = enough;
-        less = omega (arith, puts_less);
+        less = omega arith;
         far = n;
-        cut = subst (λ (bs : List ℕ). CutAfter sends w.target bs n to) all_written cut;
-        parted = prefix_parted w.form w.pending.text_end w.state batch index more begins_with.first begins_with.rest begins_with.is own_current few joins_own n k low_own within_all counted;
-        state = state;
+        cut = subst (λ (bs : List ℕ). CutAfter sends from bs n to) all_written cut;
+        parted = subst (λ (list : List Entry). Parted form before.text_end s list 0 n) (sym those_are) (parted_first form before.text_end s e others n (omega (arith, less, ap length own_appended)));
       }
+
+      module _ (k : ℕ) (low : length r.bytes ≤ n) (is : k ≡ (n - (length u.bytes - size * more)) / size) where
+        -- how far the cut is after the first entry
+        abbrev beyond : ℕ
+        beyond = n - length r.bytes
+
+        abbrev begin : List ℕ
+        begin = opening r.text_end batch more
+
+        lengths : length u.bytes ≡ length r.bytes + length (bytes_of_rest r.text_end batch (index + 1) more)
+        lengths = ap length bytes ∙ length-append r.bytes (bytes_of_rest r.text_end batch (index + 1) more)
+
+        more_than_none : 0 < more
+        more_than_none = by more refl
+          where
+            by : (m : ℕ) → m ≡ more → 0 < more
+            by zero zero_is =
+                let none : length (bytes_of_rest r.text_end batch (index + 1) more) ≡ 0 = ap (λ (m : ℕ). length (bytes_of_rest r.text_end batch (index + 1) m)) (sym zero_is) in
+                absurd (omega (arith, low, cut.less, lengths, none))
+            by (suc m) is = omega (arith, is)
+
+        rest_length : length u.bytes ≡ length r.bytes + length (begin ++ joined_bytes batch (index + 1) more)
+        rest_length = lengths ∙ ap (λ (bs : List ℕ). length r.bytes + length bs) (rest_some r.text_end batch (index + 1) more more_than_none)
+
+        within : beyond < length (begin ++ joined_bytes batch (index + 1) more)
+        within = omega (arith, low, cut.less, rest_length)
+
+        same : k ≡ (beyond - length begin) / size
+        same =
+            let past : n - (length u.bytes - size * more) ≡ beyond - length begin =
+            omega (arith, rest_length, length-append begin (joined_bytes batch (index + 1) more), joined_length batch (index + 1) more few) in
+            is ∙ ap (λ (m : ℕ). m / size) past
+
+        few_whole : (beyond - length begin) / size < more
+        few_whole = whole_less begin batch (index + 1) more beyond few more_than_none within
+
+        cut_parted : Parted form before.text_end s those (k + 1) n
+        cut_parted =
+            let many : length others ≡ more = length-take-le more begins_with.rest (omega (arith, few, ap length rest_is, length-drop (index + 1) (batch_entries batch))) in
+            let j : ℕ = (beyond - length begin) / size in
+            let part : Parted form r.text_end (after s e) others j beyond =
+            each_prefix (length begin + size) size form r.text_end (after s e) others j beyond (joined more_than_none).each (omega (arith, many, few_whole))
+            (whole_of begin batch (index + 1) more beyond few more_than_none within) in
+            let count : suc j ≡ k + 1 = omega (arith, same) in
+            subst (λ (list : List Entry). Parted form before.text_end s list (k + 1) n) (sym those_are)
+            (subst (λ (m : ℕ). Parted form before.text_end s (e ∷ others) m n) count
+            (parted_after form before.text_end s e others j n beyond (omega (arith, low, ap length own_appended)) (subst (λ (t : TextEnd). Parted form t (after s e) others j beyond) own_ends part)))
+
+        pub sends_cut : SendsPartly sends form s (drop index (batch_entries batch)) before.text_end from to (k + 1)
+        sends_cut = record {
+          count = more + 1;
+          few = enough;
+          less = omega (arith, few_whole, same);
+          far = n;
+          cut = subst (λ (bs : List ℕ). CutAfter sends from bs n to) all_written cut;
+          parted = cut_parted;
+        }

@@ -1,8 +1,8 @@
 -- What an outlet took, write after write and entry after entry.
 
 use Rattle.nap_canon.proofs.Common.{Bool, Broke, Canonical, Entry, Err, Form, List, Ok, OnErr, OnOk, Piece, Result, Sends, SendsAll, SendsSome, StartsTextIn, State, TextEnd, Took, WritesText, [], after, ap, append-nil, entry_bytes, entry_pieces, false, false≢true, header, is_err, pieces, pieces_bytes, sending, sending_of, sends_more, start, subst, sym, text_end_after, text_end_after_header, true, true≢false, walk, ℕ, ◌++◌, ◌∙◌, ◌∷◌, ◌≡◌}
-use Rattle.nap_list.specs.declared.device.outlet.Outlet as outlet
-use Rattle.nap_canon.specs.declared.form.Form.TheVariants.{Two}
+use Rattle.nap_list.specs.declared.device.Outlet as outlet
+use Rattle.nap_canon.specs.declared.text.Form.TheVariants.{Two}
 
 -- one entry more, or a failure amid its bytes
 

@@ -1,7 +1,6 @@
 -- The pieces of an entry: its prelude, and its own spelling.
 
 use Rattle.nap_canon.proofs.Common.{All-head, All-tail, AllFit, AllInRange, AttributesInRange, Colour, ColourInRange, Command, Drawing, Entry, Fits, Form, Hand, HandInRange, InRange, Ink, InkInRange, List, OperandLengths, Pen, PenInRange, Piece, State, TextEnd, Work, [], after, ap, append-nil, append_assoc, attributes, colour_only, command_piece, entry_pieces, false, group, hand_attributes, ink_attributes, inl, inr, joins_open_run, length, map, pen_only, prelude, refl, spelling_pieces, subst, sym, with_attributes, ℕ, ⊤, ◌++◌, ◌∙◌, ◌∷◌, ◌≡◌}
-use Rattle.nap_list.specs.declared.entry.Entry.TheVariants as entries
 use Rattle.nap_canon.proofs.prelude.PreludeLemmas.{prelude_leads}
 use Rattle.nap_canon.proofs.spelling.CommandLemmas.{work_at, commands_after}
 use Rattle.nap_canon.proofs.reading.ConveyLemmas.{ConveyAll, nothing, nothing_conveyed, convey_begin}
@@ -27,20 +26,20 @@ pen_in_range : (pen : Pen) → PenInRange pen → AttributesInRange (pen_only pe
 pen_in_range pen inside = record { pen = inside; pel = tt; colour = tt; texture = tt; text = tt }
 
 attributes_are_in_range : (e : Entry) → InRange e → AttributesInRange (attributes e)
-attributes_are_in_range (entries.Point at pel colour) inside = record { pen = tt; pel = inside.1; colour = inside.2; texture = tt; text = tt }
-attributes_are_in_range (entries.Line from to ink) inside = ink_in_range ink inside.2
-attributes_are_in_range (entries.Arc filled points ink) inside = ink_in_range ink inside.1
-attributes_are_in_range (entries.Rect filled from to ink) inside = ink_in_range ink inside.2
-attributes_are_in_range (entries.Poly filled points ink) inside = ink_in_range ink inside.1
-attributes_are_in_range (entries.Char set code hand) inside = hand_in_range hand inside.1
-attributes_are_in_range (entries.TextMove step hand) inside = hand_in_range hand inside.1
-attributes_are_in_range (entries.ToEol hand) inside = hand_in_range hand inside
-attributes_are_in_range (entries.Blink a on off delay colour) inside = colour_in_range colour inside.4
-attributes_are_in_range (entries.BlinkEnd colour) inside = colour_in_range colour inside
-attributes_are_in_range (entries.BlinkMark on colour) inside = colour_in_range colour inside
-attributes_are_in_range (entries.Field area pen) inside = pen_in_range pen inside.1
-attributes_are_in_range (entries.Reset first second pen) inside = pen_in_range pen inside.2
-attributes_are_in_range (entries.Clear pen) inside = pen_in_range pen inside
+attributes_are_in_range (Entry.Point at pel colour) inside = record { pen = tt; pel = inside.1; colour = inside.2; texture = tt; text = tt }
+attributes_are_in_range (Entry.Line from to ink) inside = ink_in_range ink inside.2
+attributes_are_in_range (Entry.Arc filled points ink) inside = ink_in_range ink inside.1
+attributes_are_in_range (Entry.Rect filled from to ink) inside = ink_in_range ink inside.2
+attributes_are_in_range (Entry.Poly filled points ink) inside = ink_in_range ink inside.1
+attributes_are_in_range (Entry.Char set code hand) inside = hand_in_range hand inside.1
+attributes_are_in_range (Entry.TextMove step hand) inside = hand_in_range hand inside.1
+attributes_are_in_range (Entry.ToEol hand) inside = hand_in_range hand inside
+attributes_are_in_range (Entry.Blink a on off delay colour) inside = colour_in_range colour inside.4
+attributes_are_in_range (Entry.BlinkEnd colour) inside = colour_in_range colour inside
+attributes_are_in_range (Entry.BlinkMark on colour) inside = colour_in_range colour inside
+attributes_are_in_range (Entry.Field area pen) inside = pen_in_range pen inside.1
+attributes_are_in_range (Entry.Reset first second pen) inside = pen_in_range pen inside.2
+attributes_are_in_range (Entry.Clear pen) inside = pen_in_range pen inside
 attributes_are_in_range _ inside = record { pen = tt; pel = tt; colour = tt; texture = tt; text = tt }
 
 -- the list may come from a state on

@@ -1,8 +1,6 @@
 -- What the rules of drawing do with the operands of a shape, and of a blink.
 
-use Rattle.nap_canon.proofs.Common.{All, All-cons, All-head, All-nil, All-tail, Coordinates, Displacement, Drawing, Entry, IsAddress, IsInSquare, List, Ok, OperandLengths, Option, Some, State, [], addr_bytes, addresses_spell_once, ap, append-nil, arc_points, arith, digits_of, displacement_bytes, displacement_to, displacements_lead_there, drop, false, length, moves, nat_lt, nat_tests, no_operands, operands, point_bytes, points_reached, poly_points, refl, rule, rule_result, shape_bytes, shape_from_point, steps_limit, suc, sym, take, whole_operand_first, word_byte, words_of, ℕ, ◌++◌, ◌∙◌, ◌∷◌, ◌≡◌, ◌≤◌}
-use Rattle.nap_codes.specs.declared.opcode.Opcode.TheVariants as opcodes
-use Rattle.nap_list.specs.declared.entry.Entry.TheVariants as entries
+use Rattle.nap_canon.proofs.Common.{All, All-cons, All-head, All-nil, All-tail, Coordinates, Displacement, Drawing, Entry, IsAddress, IsInSquare, List, Ok, Opcode, OperandLengths, Option, Some, State, [], addr_bytes, addresses_spell_once, ap, append-nil, arc_points, arith, digits_of, displacement_bytes, displacement_to, displacements_lead_there, drop, false, length, moves, nat_lt, nat_tests, no_operands, operands, point_bytes, points_reached, poly_points, refl, rule, rule_result, shape_bytes, shape_from_point, steps_limit, suc, sym, take, whole_operand_first, word_byte, words_of, ℕ, ◌++◌, ◌∙◌, ◌∷◌, ◌≡◌, ◌≤◌}
 use Rattle.nap_canon.proofs.spelling.CommandLemmas.{work_at}
 use Rattle.nap_canon.proofs.spelling.OperandLemmas.{word_of, no_moves, move_first, from_origin, point_first, point_alone, point_there}
 
@@ -84,8 +82,8 @@ unfolding addr_bytes digits_of
 blink_size a on off delay = refl
 
 pub blink_rule : (saved : OperandLengths) (s : State) (a on off delay : ℕ) → IsAddress a →
-    rule (work_at saved s) opcodes.Blink (words_of (addr_bytes a ++ word_byte on ∷ word_byte off ∷ word_byte delay ∷ []))
-    ≡ Ok (rule_result (work_at saved s) (entries.Blink a on off delay s.drawing.colour ∷ []))
+    rule (work_at saved s) Opcode.Blink (words_of (addr_bytes a ++ word_byte on ∷ word_byte off ∷ word_byte delay ∷ []))
+    ≡ Ok (rule_result (work_at saved s) (Entry.Blink a on off delay s.drawing.colour ∷ []))
 blink_rule saved s a on off delay inside =
     let times : List ℕ = word_byte on ∷ word_byte off ∷ word_byte delay ∷ [] in
     let group : List ℕ = words_of (addr_bytes a ++ times) in

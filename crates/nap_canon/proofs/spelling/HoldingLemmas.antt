@@ -1,7 +1,6 @@
 -- The state in which the attributes of an entry are current, and how the entry is drawn in it.
 
 use Rattle.nap_canon.proofs.Common.{Attributes, Base, Colour, Drawing, Entry, List, None, OperandLengths, Option, Piece, RuleResult, Some, State, Work, [], after, ap, attributes, base_after, definition_after, effect_on_drawing, known_after, last_after, refl, subst, unwrap_or, walk, with_attributes, ◌∷◌, ◌≡◌}
-use Rattle.nap_list.specs.declared.attribute.Colour.TheVariants as colours
 use Rattle.nap_draw.specs.Rule as rule
 use Rattle.nap_canon.proofs.spelling.CommandLemmas.{work_at}
 use Rattle.nap_canon.proofs.reading.ConveyLemmas.{Conveys, ConveyAll, nothing, next}
@@ -15,11 +14,11 @@ unwrap_twice (Some b) a = refl
 
 base_twice : (base : Base) (w : Option Colour) → base_after (base_after base w) w ≡ base_after base w
 base_twice base None = refl
-base_twice base (Some (colours.Own origin)) = refl
-base_twice base (Some (colours.Direct grb)) = refl
-base_twice base (Some (colours.Front a)) = refl
-base_twice base (Some (colours.Pair a b)) = refl
-base_twice base (Some (colours.ByReset preset)) = refl
+base_twice base (Some (Colour.Own origin)) = refl
+base_twice base (Some (Colour.Direct grb)) = refl
+base_twice base (Some (Colour.Front a)) = refl
+base_twice base (Some (Colour.Pair a b)) = refl
+base_twice base (Some (Colour.ByReset preset)) = refl
 
 taking_twice : (d : Drawing) (h : Attributes) → with_attributes (with_attributes d h) h ≡ with_attributes d h
 taking_twice d h =

@@ -1,12 +1,11 @@
 -- The operand lengths that a definition saved, along canonical text.
 
 use Rattle.nap_canon.proofs.Common.{Entry, List, None, OpenDefinition, OperandLengths, Option, Some, State, [], after, refl, text_lengths, walk, ⊤, ◌∷◌, ◌≡◌}
-use Rattle.nap_list.specs.declared.entry.Entry.TheVariants as entries
 
 -- the saved operand lengths after an entry
 abbrev pub saved_after : OperandLengths → Entry → OperandLengths
-saved_after saved (entries.GlyphStart code) = text_lengths
-saved_after saved (entries.MaskStart mask) = text_lengths
+saved_after saved (Entry.GlyphStart code) = text_lengths
+saved_after saved (Entry.MaskStart mask) = text_lengths
 saved_after saved _ = saved
 
 -- the saved operand lengths after entries, one after another
@@ -20,9 +19,9 @@ SavesLengths saved None = ⊤
 SavesLengths saved (Some opened) = saved ≡ text_lengths
 
 pub saves_after : (saved : OperandLengths) (s : State) (e : Entry) → SavesLengths saved s.definition → SavesLengths (saved_after saved e) (after s e).definition
-saves_after saved s (entries.GlyphStart code) h = refl
-saves_after saved s (entries.MaskStart mask) h = refl
-saves_after saved s entries.DefEnd h = tt
+saves_after saved s (Entry.GlyphStart code) h = refl
+saves_after saved s (Entry.MaskStart mask) h = refl
+saves_after saved s Entry.DefEnd h = tt
 saves_after saved s _ h = h
 
 pub saves_along : (saved : OperandLengths) (s : State) (es : List Entry) → SavesLengths saved s.definition →

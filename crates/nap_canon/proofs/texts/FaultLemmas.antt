@@ -1,7 +1,7 @@
 -- The places where `canon` finds that a list isn't legal.
 
 use Rattle.nap_canon.proofs.Common.{CanonFault, Entry, Err, Global, IsErrOf, IsIllegalAt, List, Ok, Result, Vec, ap, ℕ, ◌↔◌, ◌≡◌}
-use Rattle.nap_canon.specs.declared.fault.CanonFault.TheVariants.{Illegal}
+use Rattle.nap_canon.specs.declared.text.CanonFault.TheVariants.{Illegal}
 
 abbrev Answer : Type 0
 Answer = Result (Vec ℕ Global) CanonFault

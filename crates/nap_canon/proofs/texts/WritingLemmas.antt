@@ -1,7 +1,6 @@
 -- The appended text, and the bytes that a writer sends.
 
 use Rattle.nap_canon.proofs.Common.{AppendsCommands, AppendsPiece, AppendsPieces, Attributes, Bool, Command, Drawing, Entry, Err, Form, List, Ok, Option, Pending, Piece, Puts, Result, Shape, ShapeKind, State, TextEnd, Writer, WritesPendingAnd, WritesPieces, [], after, ap, append-nil, append_assoc, attributes, circle_closed, command_piece, entry_of_shape, entry_pieces, false, is_err, map, map-append, option_commands, outline, piece_bytes, pieces_bytes, pieces_bytes-append, prelude, shape, shape_on, spelling_pieces, subst, sym, text_end_after, text_end_after-append, true, with_attributes, ℕ, ◌++◌, ◌∙◌, ◌∷◌, ◌≡◌}
-use Rattle.nap_list.specs.declared.shape.ShapeKind.TheVariants as kinds
 
 -- a piece alone
 pub one_piece : (p : Piece) (w t : Pending) → AppendsPiece p w t → AppendsPieces (p ∷ []) w t
@@ -34,9 +33,9 @@ pub commands_before : (command : Option Command) (prefix back : List Command) (w
     AppendsCommands (prefix ++ back) w t
 commands_before command prefix back w m t is = both_commands (option_commands command) back (prefix ++ back) w m t (ap (λ (cs : List Command). cs ++ back) is)
 
--- an entry that is one piece
-pub one_appended : (form : Form) (s : State) (e : Entry) (piece : Piece) (w t : Pending) → entry_pieces form s e ≡ piece ∷ [] → AppendsPiece piece w t → AppendsPieces (entry_pieces form s e) w t
-one_appended form s e piece w t is put = subst (λ (ps : List Piece). AppendsPieces ps w t) (sym is) (one_piece piece w t put)
+-- pieces that are one
+pub one_appended : (ps : List Piece) (piece : Piece) (w t : Pending) → ps ≡ piece ∷ [] → AppendsPiece piece w t → AppendsPieces ps w t
+one_appended ps piece w t is put = subst (λ (ps : List Piece). AppendsPieces ps w t) (sym is) (one_piece piece w t put)
 
 -- a piece that is written alone
 pub one_written : {T F E : Type 0} (sent : T → List ℕ → Bool → T → Type 0) (p : Piece) (w t : Writer T F) (r : Result (Unit {0}) E) → WritesPendingAnd sent p w t r → WritesPieces sent (p ∷ []) w t r
@@ -49,16 +48,19 @@ one_written sent p w t r piece = record {
 
 -- the spelling of a shape with borrowed points
 
-pub arc_spelled : (form : Form) (d : Drawing) (s : Shape) → s.kind ≡ kinds.Arc → spelling_pieces form d (entry_of_shape s) ≡ shape 0x2E s.filled (circle_closed (s.from ∷ s.others.now)) ∷ []
+pub arc_spelled : (form : Form) (d : Drawing) (s : Shape) → s.kind ≡ ShapeKind.Arc → spelling_pieces form d (entry_of_shape s) ≡ shape 0x2E s.filled (circle_closed (s.from ∷ s.others.now)) ∷ []
 arc_spelled form d s = ap (λ (kind : ShapeKind). spelling_pieces form d (shape_on kind s.filled s.drawing.now (outline kind (s.from ∷ s.others.now))))
 
-pub poly_spelled : (form : Form) (d : Drawing) (s : Shape) → s.kind ≡ kinds.Poly → spelling_pieces form d (entry_of_shape s) ≡ shape 0x36 s.filled (s.from ∷ s.others.now) ∷ []
+pub poly_spelled : (form : Form) (d : Drawing) (s : Shape) → s.kind ≡ ShapeKind.Poly → spelling_pieces form d (entry_of_shape s) ≡ shape 0x36 s.filled (s.from ∷ s.others.now) ∷ []
 poly_spelled form d s = ap (λ (kind : ShapeKind). spelling_pieces form d (shape_on kind s.filled s.drawing.now (outline kind (s.from ∷ s.others.now))))
 
 -- an entry after its prelude
 
-module _ {T F : Type 0} (sent : T → List ℕ → Bool → T → Type 0) (w : Writer T F) (e : Entry) (h : Attributes) (holds : h ≡ attributes e) (clear : List ℕ) (none : clear ≡ []) (r : Pending)
-    (after_prelude : AppendsCommands (prelude w.state.drawing h) (record { text_end = w.pending.text_end; bytes = clear }) r) (u : Writer T F) where
+module _ {T F : Type 0} (sent : T → List ℕ → Bool → T → Type 0) (w : Writer T F) (e : Entry) (h : Attributes) (holds : h ≡ attributes e) (clear : List ℕ) (none : clear ≡ []) (d : Drawing)
+    (same : d ≡ w.state.drawing) (r : Pending) (appended : AppendsCommands (prelude d h) (record { text_end = w.pending.text_end; bytes = clear }) r) (u : Writer T F) where
+  after_prelude : AppendsCommands (prelude w.state.drawing h) (record { text_end = w.pending.text_end; bytes = clear }) r
+  after_prelude = subst (λ (d : Drawing). AppendsCommands (prelude d h) (record { text_end = w.pending.text_end; bytes = clear }) r) same appended
+
   abbrev before : List Piece
   before = map command_piece (prelude w.state.drawing h)
 

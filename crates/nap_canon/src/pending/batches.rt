@@ -1,37 +1,70 @@
 //! Entries of a batch, appended one after another.
 ghost use Rattle.std.specs.Prelude.{◌≡◌, ◌++◌, ◌<◌, ◌≤◌, ◌+◌, ◌*◌, length, drop};
-ghost use Rattle.nap_list.specs.Batches.{EachIsCurrent, batch_entries};
+ghost use Rattle.nap_canon.specs.Names.{State, batch_entries};
+ghost use Rattle.nap_canon.specs.Preludes.{prelude};
 ghost use Rattle.nap_canon.specs.declared.text_end.TextEnd.TheVariants.{InRun};
-ghost use Rattle.nap_canon.specs.Batches.{bytes_of_rest, text_end_after_rest, points_bytes, run_opening};
+ghost use Rattle.nap_canon.specs.Batches.{batch_attributes, bytes_of_rest, text_end_after_rest, points_bytes, run_opening};
 ghost use Rattle.nap_canon.specs.Text.{run_after};
-ghost use Rattle.nap_canon.specs.Writing.{AppendsNext};
+ghost use Rattle.nap_canon.specs.Writing.{AppendsCommands, AppendsNext, SpellsNext};
 ghost use Rattle.nap_canon.specs.Buffers.{piece_limit, buffer_limit};
 
-use crate::form::Form;
-use crate::parts::{item, part};
+use crate::current::{item, part};
 use crate::pending::{Pending, opcodes};
-use nap_list::{Batch, State, line_start};
+use crate::text::Form;
+use nap_list::{Batch, Drawing, line_start};
 use nap_values::Point;
 
 impl Pending {
-    /// Appends the entry of a batch at an index, whose attributes are current.
+    /// Appends the spelling of a batch's entry at an index, whose attributes are current.
     #[inline(always)]
-    pub(crate) fn append_next(&mut self, form: Form, state: &State, batch: &Batch, index: usize)
+    pub(crate) fn append_spelling_at(
+        &mut self,
+        form: Form,
+        old: &Drawing,
+        batch: &Batch,
+        index: usize,
+    )
         requires some { index < length (batch_entries batch.now) }
-        requires current { EachIsCurrent state.now (drop index (batch_entries batch.now)) }
         requires space { length self.old.bytes + piece_limit ≤ buffer_limit }
-        ensures { AppendsNext form state.now (drop index (batch_entries batch.now)) self.old self.new }
+        ensures { SpellsNext form old.now (drop index (batch_entries batch.now)) self.old self.new }
     {
         match batch {
             Batch::Points { points, .. } => self.append_point(form, item(points, index)),
             Batch::Lines { from, points, .. } => self.append_line(
                 form,
-                state.drawing.pen,
+                old.pen,
                 line_start(*from, points, index),
                 item(points, index),
             ),
             Batch::Text { set, codes, .. } => self.append_text_byte(*set, item(codes, index)),
         }
+    }
+
+    /// Appends the prelude of a batch's first entry.
+    #[inline(always)]
+    fn append_batch_prelude(&mut self, old: &Drawing, batch: &Batch)
+        requires space { length self.old.bytes + 162 ≤ buffer_limit }
+        ensures appends { AppendsCommands (prelude old.now (batch_attributes batch.now)) self.old self.new }
+        ensures most { length self.new.bytes ≤ length self.old.bytes + 162 }
+    {
+        match batch {
+            Batch::Points { drawing, .. } => {
+                self.append_other_point_prelude(old, drawing.pel, drawing.colour);
+            }
+            Batch::Lines { drawing, .. } => self.append_other_ink_prelude(old, &drawing.ink()),
+            Batch::Text { pen, drawing, .. } => self.append_text_prelude(old, *pen, drawing),
+        }
+    }
+
+    /// Appends the first entry of a batch, with its prelude.
+    #[inline(always)]
+    pub(crate) fn append_start(&mut self, form: Form, old: &Drawing, batch: &Batch)
+        requires some { 0 < length (batch_entries batch.now) }
+        requires space { length self.old.bytes + 180 ≤ buffer_limit }
+        ensures { (s : State) → s.drawing ≡ old.now → AppendsNext form s (batch_entries batch.now) self.old self.new }
+    {
+        self.append_batch_prelude(old, batch);
+        self.append_spelling_at(form, old, batch, 0);
     }
 
     /// Appends the operands of points, which join the run of this opcode or open one.

@@ -1,8 +1,6 @@
 //! The prelude of an entry, which makes its attributes current.
 ghost use Rattle.std.specs.Prelude.{◌≡◌, ◌↔◌, ◌≤◌, ◌+◌, [], length, Some, IsTrue};
-ghost use Rattle.nap_list.specs.Agreement.{AreCurrent};
-ghost use Rattle.nap_list.specs.Entry.{attributes, hand_attributes, ink_attributes, point_attributes};
-ghost use Rattle.nap_values.specs.Spellings.{addr_bytes, grb_bytes};
+ghost use Rattle.nap_canon.specs.Names.{AreCurrent, addr_bytes, attributes, grb_bytes, hand_attributes, ink_attributes, ink_of, point_attributes};
 ghost use Rattle.nap_canon.specs.Preludes.{option_commands, colour_prelude, text_prelude, prelude};
 ghost use Rattle.nap_canon.specs.Spelling.{size_byte, flag_byte, opcode, command_piece};
 ghost use Rattle.nap_canon.specs.Writing.{AppendsPiece, AppendsCommands};
@@ -12,7 +10,7 @@ use crate::command::{
     Command, Flag, colour_prelude, flag_prelude, given_size_prelude, is_colour, named_size_prelude,
     pel_prelude, pen_prelude, texture_prelude,
 };
-use crate::current::ink_is_current;
+use crate::current::{hand_is_current, ink_is_current, point_is_current};
 use crate::pending::{LENGTHS, Pending, opcodes, word_byte};
 use nap_codes::Size;
 use nap_list::{Colour, Drawing, Entry, Hand, Ink, TextLook};
@@ -190,9 +188,9 @@ impl Pending {
         self.append_other_look_prelude(old, look);
     }
 
-    /// Appends the prelude of a pel and a colour.
+    /// Appends the prelude of a pel and a colour, which may not be current.
     #[inline(always)]
-    pub(crate) fn append_point_prelude(&mut self, old: &Drawing, pel: Move, colour: Colour)
+    pub(super) fn append_other_point_prelude(&mut self, old: &Drawing, pel: Move, colour: Colour)
         requires { length self.old.bytes + 54 ≤ buffer_limit }
         ensures appends { AppendsCommands (prelude old.now (point_attributes pel colour)) self.old self.new }
         ensures most { length self.new.bytes ≤ length self.old.bytes + 54 }
@@ -201,14 +199,34 @@ impl Pending {
         self.append_colour_prelude(old, colour);
     }
 
+    /// Appends the prelude of a pel and a colour. Returns whether both are current, so that nothing is appended.
+    #[inline(always)]
+    pub(crate) fn append_point_prelude(
+        &mut self,
+        old: &Drawing,
+        pel: &Move,
+        colour: &Colour,
+    ) -> bool
+        requires { length self.old.bytes + 54 ≤ buffer_limit }
+        ensures appends { AppendsCommands (prelude old.now (point_attributes pel.now colour.now)) self.old self.new }
+        ensures most { length self.new.bytes ≤ length self.old.bytes + 54 }
+        ensures current { IsTrue result ↔ AreCurrent (point_attributes pel.now colour.now) old.now }
+    {
+        if point_is_current(old, *pel, *colour) {
+            return true;
+        }
+        self.append_other_point_prelude(old, *pel, *colour);
+        false
+    }
+
     /// Appends the prelude of attributes for lines and areas, some of which aren't current.
     #[inline(always)]
-    fn append_other_ink_prelude(&mut self, old: &Drawing, ink: &Ink)
+    pub(super) fn append_other_ink_prelude(&mut self, old: &Drawing, ink: &Ink)
         requires { length self.old.bytes + 72 ≤ buffer_limit }
         ensures appends { AppendsCommands (prelude old.now (ink_attributes ink.now)) self.old self.new }
         ensures most { length self.new.bytes ≤ length self.old.bytes + 72 }
     {
-        self.append_point_prelude(old, ink.pel, ink.colour);
+        self.append_other_point_prelude(old, ink.pel, ink.colour);
         self.append_command_if(texture_prelude(old.texture, ink.texture));
     }
 
@@ -228,9 +246,41 @@ impl Pending {
         false
     }
 
-    /// Appends the prelude of a pen, a colour and text attributes.
+    /// Appends the prelude of the attributes for lines and areas of these ones. Returns whether all are current, so that
+    /// nothing is appended. Copies the attributes only where some aren't.
     #[inline(always)]
-    pub(crate) fn append_hand_prelude(&mut self, old: &Drawing, hand: &Hand)
+    pub(crate) fn append_drawing_prelude(&mut self, old: &Drawing, drawing: &Drawing) -> bool
+        requires { length self.old.bytes + 72 ≤ buffer_limit }
+        ensures appends { AppendsCommands (prelude old.now (ink_attributes (ink_of drawing.now))) self.old self.new }
+        ensures most { length self.new.bytes ≤ length self.old.bytes + 72 }
+        ensures current { IsTrue result ↔ AreCurrent (ink_attributes (ink_of drawing.now)) old.now }
+    {
+        if ink_is_current(old, &drawing.ink()) {
+            return true;
+        }
+        self.append_other_ink_prelude(old, &drawing.ink());
+        false
+    }
+
+    /// Appends the prelude of a pen, a colour and text attributes. Returns whether all are current, so that nothing is
+    /// appended.
+    #[inline(always)]
+    pub(crate) fn append_hand_prelude(&mut self, old: &Drawing, hand: &Hand) -> bool
+        requires { length self.old.bytes + 162 ≤ buffer_limit }
+        ensures appends { AppendsCommands (prelude old.now (hand_attributes hand.now)) self.old self.new }
+        ensures most { length self.new.bytes ≤ length self.old.bytes + 162 }
+        ensures current { IsTrue result ↔ AreCurrent (hand_attributes hand.now) old.now }
+    {
+        if hand_is_current(old, hand) {
+            return true;
+        }
+        self.append_other_hand_prelude(old, hand);
+        false
+    }
+
+    /// Appends the prelude of a pen, a colour and text attributes, some of which may not be current.
+    #[inline(never)]
+    fn append_other_hand_prelude(&mut self, old: &Drawing, hand: &Hand)
         requires { length self.old.bytes + 162 ≤ buffer_limit }
         ensures appends { AppendsCommands (prelude old.now (hand_attributes hand.now)) self.old self.new }
         ensures most { length self.new.bytes ≤ length self.old.bytes + 162 }
@@ -249,13 +299,15 @@ impl Pending {
         ensures most { length self.new.bytes ≤ length self.old.bytes + 162 }
     {
         match entry {
-            Entry::Point { pel, colour, .. } => self.append_point_prelude(old, *pel, *colour),
+            Entry::Point { pel, colour, .. } => {
+                self.append_other_point_prelude(old, *pel, *colour);
+            }
             Entry::Line { ink, .. }
             | Entry::Arc { ink, .. }
             | Entry::Rect { ink, .. }
             | Entry::Poly { ink, .. } => self.append_other_ink_prelude(old, ink),
             Entry::Char { hand, .. } | Entry::TextMove { hand, .. } | Entry::ToEol { hand } => {
-                self.append_hand_prelude(old, hand);
+                self.append_other_hand_prelude(old, hand);
             }
             Entry::Blink { colour, .. }
             | Entry::BlinkEnd { colour }

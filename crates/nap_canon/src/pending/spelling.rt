@@ -1,17 +1,17 @@
 //! The spelling of each entry whose attributes are current (PROFILE.md, Canonical text).
-ghost use Rattle.std.specs.Prelude.{◌≡◌, true, ◌≤◌, ◌+◌, ◌++◌, [], ◌∷◌, length};
-ghost use Rattle.nap_values.specs.Spellings.{addr_bytes};
-ghost use Rattle.nap_list.specs.Entry.{attributes};
-ghost use Rattle.nap_list.specs.State.{with_attributes};
-ghost use Rattle.nap_canon.specs.Spelling.{word_byte, mask_byte, cursor_byte, area_bytes, domain_again, opcode, map_pieces, spelling_pieces};
-ghost use Rattle.nap_canon.specs.Writing.{AppendsPieces, AppendsPiece, is_short};
+ghost use Rattle.std.specs.Prelude.{◌≡◌, true, ◌≤◌, ◌+◌, ◌++◌, [], ◌∷◌, length, ◌<◌, if◌then◌else◌};
+ghost use Rattle.nap_canon.specs.Names.{addr_bytes, attributes, hand_attributes, hand_of, point_bytes, with_attributes};
+ghost use Rattle.nap_canon.specs.Spelling.{word_byte, mask_byte, cursor_byte, area_bytes, domain_again, opcode, map_pieces, spelling_pieces, step_bytes, primary, char_piece, text_byte_piece, control, shape_bytes, joinable_piece, line_piece, rect_piece};
+ghost use Rattle.nap_canon.specs.Writing.{AppendsPieces, AppendsPiece, is_short, AppendsCommands, PathOf};
 ghost use Rattle.nap_canon.specs.Buffers.{piece_limit, buffer_limit};
+ghost use Rattle.nap_canon.specs.Preludes.{prelude};
 
-use crate::form::Form;
+use crate::command::pen_prelude;
 use crate::pending::{LENGTHS, Pending, opcodes, word_byte};
-use nap_codes::{CursorKind, Mask};
-use nap_list::{Area, Colour, Drawing, Entry};
-use nap_values::{Addr, Grb, Word, put_addr, put_move, put_point};
+use crate::text::Form;
+use nap_codes::{CharSet, CursorKind, Mask, TextStep, format_effector};
+use nap_list::{Area, Colour, Drawing, Entry, Pen};
+use nap_values::{Addr, Grb, Point, Word, put_addr, put_move, put_point};
 
 /// Returns the argument of DEF TEXTURE.
 fn mask_byte(mask: Mask) -> u8
@@ -162,4 +162,159 @@ impl Pending {
             Entry::Arc { .. } | Entry::Poly { .. } => unreachable!(),
         }
     }
+
+    /// Appends a code of the primary characters, after SI if G0 isn't in GL.
+    #[inline(always)]
+    fn append_primary(&mut self, code: u8)
+        requires { length self.old.bytes + 2 ≤ buffer_limit }
+        ensures { AppendsPiece (primary code) self.old self.new }
+    {
+        self.append_shift_in();
+        self.bytes.push(code);
+    }
+
+    /// Appends a character: after SS2 one of G2, after SS3 one of G3, which holds the DRCS only for that time.
+    #[inline(always)]
+    pub(crate) fn character(&mut self, set: CharSet, code: u8)
+        requires { length self.old.bytes + 8 ≤ buffer_limit }
+        ensures { AppendsPiece (char_piece set code) self.old self.new }
+    {
+        match set {
+            CharSet::Primary => self.append_primary(code),
+            CharSet::Supplementary => self.append_control(&[0x19, code]),
+            CharSet::Mosaic => self.append_control(&[0x1D, code]),
+            CharSet::Drcs => self.append_control(&[0x1B, 0x2B, 0x7B, 0x1D, code, 0x1B, 0x2B, 0x7D]),
+        }
+    }
+
+    /// Appends a format effector.
+    #[inline(always)]
+    pub(crate) fn append_text_move(&mut self, step: TextStep)
+        requires { length self.old.bytes + 3 ≤ buffer_limit }
+        ensures { AppendsPiece (control (step_bytes step)) self.old self.new }
+    {
+        match step {
+            TextStep::Apb => self.append_control(&[0x08]),
+            TextStep::Apf => self.append_control(&[0x09]),
+            TextStep::Apd => self.append_control(&[0x0A]),
+            TextStep::Apu => self.append_control(&[0x0B]),
+            TextStep::Apr => self.append_control(&[0x0D]),
+            TextStep::Aph => self.append_control(&[0x1E]),
+            TextStep::Aps(a, b) => self.append_control(&[0x1C, a, b]),
+        }
+    }
+
+    /// Appends a byte of a text: a format effector, else a character of the set. Most are primary characters.
+    #[inline(always)]
+    pub(crate) fn append_text_byte(&mut self, set: CharSet, code: u8)
+        requires { length self.old.bytes + 8 ≤ buffer_limit }
+        ensures { AppendsPiece (text_byte_piece set code) self.old self.new }
+    {
+        if set == CharSet::Primary && code >= 0x20 {
+            return self.append_primary(code);
+        }
+        self.append_other_text_byte(set, code);
+    }
+
+    /// Appends a byte of a text: a format effector, else a character of the set.
+    #[inline(never)]
+    fn append_other_text_byte(&mut self, set: CharSet, code: u8)
+        requires { length self.old.bytes + 8 ≤ buffer_limit }
+        ensures { AppendsPiece (text_byte_piece set code) self.old self.new }
+    {
+        match format_effector(code) {
+            Some(step) => self.append_text_move(step),
+            None => self.character(set, code),
+        }
+    }
+
+    /// Appends the prelude of a text at this pen.
+    #[inline(always)]
+    pub(super) fn append_text_prelude(&mut self, old: &Drawing, pen: Pen, drawing: &Drawing)
+        requires space { length self.old.bytes + 162 ≤ buffer_limit }
+        ensures appends { AppendsCommands (prelude old.now (hand_attributes (record (hand_of drawing.now) { pen = pen }))) self.old self.new }
+        ensures most { length self.new.bytes ≤ length self.old.bytes + 162 }
+    {
+        self.append_command_if(pen_prelude(old.pen, pen));
+        self.append_colour_prelude(old, drawing.colour);
+        self.append_look_prelude(&old.text, &drawing.text);
+    }
+
+    /// Appends a shape through a few points.
+    #[inline(always)]
+    pub(crate) fn append_shape(&mut self, code: u8, first: Point, others: &[Point])
+        requires few { length others.now ≤ 100 }
+        requires space { length self.old.bytes + 810 ≤ buffer_limit }
+        ensures { AppendsPiece (opcode code (shape_bytes (first ∷ others.now))) self.old self.new }
+    {
+        self.append_opcode_and_operands(code, &[], &put_point(first));
+        self.bytes.append_displacements(first, others);
+    }
+
+    /// Appends a line. In form 2 a line that starts at the pen has only its end.
+    #[inline(always)]
+    pub(crate) fn append_line(&mut self, form: Form, pen: Pen, from: Point, to: Point)
+        requires { length self.old.bytes + piece_limit ≤ buffer_limit }
+        ensures { AppendsPiece (line_piece form pen from to) self.old self.new }
+    {
+        if form == Form::Two && pen == Pen::At(from) {
+            return self.append_joinable(form, opcodes::LINE_ABS, &[], &put_point(to));
+        }
+        self.append_joinable(
+            form,
+            opcodes::SET_LINE_ABS,
+            &put_point(from),
+            &put_point(to),
+        );
+    }
+
+    /// Appends a point.
+    #[inline(always)]
+    pub(crate) fn append_point(&mut self, form: Form, at: Point)
+        requires { length self.old.bytes + 10 ≤ buffer_limit }
+        ensures { AppendsPiece (joinable_piece form 0x26 (point_bytes at)) self.old self.new }
+    {
+        self.append_joinable(form, opcodes::POINT_ABS, &[], &put_point(at));
+    }
+
+    /// Appends a rectangle.
+    #[inline(always)]
+    pub(crate) fn append_rect(&mut self, form: Form, filled: bool, from: Point, to: Point)
+        requires { length self.old.bytes + piece_limit ≤ buffer_limit }
+        ensures { AppendsPiece (rect_piece form filled from to) self.old self.new }
+    {
+        let code = shape_opcode(opcodes::SET_RECT, filled);
+        self.append_joinable(form, code, &put_point(from), &put_move(from.to(to)));
+    }
+}
+
+/// A shape: its opcode and its points.
+#[derive(Clone, Copy, Drop)]
+pub(crate) struct Path<'a> {
+    pub(crate) opcode: u8,
+    pub(crate) points: &'a [Point],
+}
+
+/// Returns the shape of an entry, if it is an arc or polygon.
+#[inline(always)]
+pub(crate) fn path_of<'a>(entry: &'a Entry) -> Option<Path<'a>>
+    ensures { PathOf result entry.now }
+{
+    let (outlined, filled, points) = match entry {
+        Entry::Arc { filled, points, .. } => (opcodes::SET_ARC, *filled, points),
+        Entry::Poly { filled, points, .. } => (opcodes::SET_POLY, *filled, points),
+        _ => return None,
+    };
+    Some(Path {
+        opcode: shape_opcode(outlined, filled),
+        points: points.as_slice(),
+    })
+}
+
+/// Returns the opcode of a shape: that of the filled one follows that of the outlined one.
+pub(crate) fn shape_opcode(outlined: u8, filled: bool) -> u8
+    requires { outlined < 255 }
+    ensures { result ≡ if filled then (outlined + 1) else outlined }
+{
+    if filled { outlined + 1 } else { outlined }
 }

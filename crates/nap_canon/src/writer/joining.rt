@@ -1,19 +1,19 @@
 //! Entries of a batch whose attributes are current. Several that join the last run or text, or open one, are one write.
-ghost use Rattle.std.specs.Prelude.{◌≡◌, ◌<◌, ◌≤◌, ◌+◌, ◌*◌, ◌⊎◌, length, drop, IsTrue, ◌↔◌};
+ghost use Rattle.std.specs.Prelude.{◌≡◌, ◌<◌, ◌≤◌, ◌+◌, ◌*◌, ◌⊎◌, [], length, drop, IsTrue, ◌↔◌};
 ghost use Rattle.nap_list.specs.Batches.{EachIsCurrent, FirstIsCurrent, batch_entries};
+ghost use Rattle.nap_canon.specs.declared.pending.Pending.{Pending};
 ghost use Rattle.nap_canon.specs.declared.text_end.TextEnd.TheVariants.{NoRun, InRun};
 ghost use Rattle.nap_codes.specs.declared.code_set.GSet.TheVariants.{G0};
 ghost use Rattle.nap_canon.specs.Batches.{Joins, JoinsAfter, PointsJoin, TextJoins, entry_size, joined_bytes, text_end_after_joined, opening, points_bytes, run_opening};
 ghost use Rattle.nap_canon.specs.Text.{gl_of, run_after, shift_to_primary};
-ghost use Rattle.nap_canon.specs.Writing.{PutsPrefix, WritesWhole};
+ghost use Rattle.nap_canon.specs.Writing.{AppendsNext, PutsPrefix, RestIsCurrent, SendsPrefix, Stays, WritesWhole, put_count};
 ghost use Rattle.nap_canon.specs.Buffers.{buffer_limit};
 
 use crate::byte_buffer::BUFFER_SIZE;
 use crate::byte_sink::ByteSink;
-use crate::current::batch_begins_current;
-use crate::form::Form;
-use crate::parts::{item, part};
+use crate::current::{batch_begins_current, item, part};
 use crate::pending::opcodes;
+use crate::text::Form;
 use crate::text_end::TextEnd;
 use crate::writer::Writer;
 use nap_codes::{CharSet, GSet, format_effector};
@@ -32,7 +32,7 @@ impl<T: ByteSink + Drop> Writer<T> {
     pub(crate) fn first_is_current(&self, batch: &Batch) -> bool
         ensures { IsTrue result ↔ FirstIsCurrent batch.now self.now.state.drawing }
     {
-        batch_begins_current(&self.state.drawing, batch)
+        batch_begins_current(self.state.drawing(), batch)
     }
 
     /// Returns how many of the next `count` points make one write: those that join the run of this opcode, or that open
@@ -86,7 +86,7 @@ impl<T: ByteSink + Drop> Writer<T> {
                 self.joining_point_count(opcodes::POINT_ABS, points.len() - first)
             }
             Batch::Lines { from, points, .. } => {
-                if self.state.drawing.pen != Pen::At(line_start(*from, points, first)) {
+                if self.state.drawing().pen != Pen::At(line_start(*from, points, first)) {
                     return 0;
                 }
                 self.joining_point_count(opcodes::LINE_ABS, points.len() - first)
@@ -123,6 +123,33 @@ impl<T: ByteSink + Drop> Writer<T> {
         }
     }
 
+    /// Writes the pending text, which ends in the entry of a batch at an index, and with it those after it that make one
+    /// write. Returns their number; the error has the number taken.
+    #[inline(always)]
+    pub(super) fn write_with_more(&mut self, batch: &Batch, index: usize) -> Result<usize, usize>
+        requires { index < length (batch_entries batch.now) }
+        ensures sends { (before : Pending) → before.bytes ≡ [] → AppendsNext self.old.form self.old.state (drop index (batch_entries batch.now)) before self.old.pending → RestIsCurrent self.old.state (drop index (batch_entries batch.now)) → SendsPrefix T.sent self.old.form self.old.state (drop index (batch_entries batch.now)) before.text_end self.old.target self.new.pending.text_end self.new.target result }
+        ensures kept { Stays self.old self.new }
+        ensures few { put_count result + index ≤ length (batch_entries batch.now) }
+    {
+        let first_end = self.pending.bytes.len();
+        // The number of entries fits a `usize`, so the next index does.
+        let _count = batch.len();
+        let more = self.joining_count_after(batch, index);
+        self.pending.append_joined(batch, index + 1, more);
+        match self.target.write_counted(self.pending.bytes.as_slice()) {
+            Ok(()) => Ok(more + 1),
+            Err(taken) => {
+                if taken < first_end {
+                    return Err(0);
+                }
+                let size = entry_size(batch);
+                let begun = self.pending.bytes.len() - size * more;
+                Err(taken.saturating_sub(begun) / size + 1)
+            }
+        }
+    }
+
     /// Puts the entry of a batch at an index, whose attributes are current, and those after it that make one write with
     /// it. Returns their number; the error has the number taken.
     #[inline(never)]
@@ -133,28 +160,10 @@ impl<T: ByteSink + Drop> Writer<T> {
     {
         self.pending.bytes.clear();
         self.pending
-            .append_next(self.form, &self.state, batch, index);
-        let first_end = self.pending.bytes.len();
-        // The number of entries fits a `usize`, so the next index does.
-        let _count = batch.len();
-        let more = self.joining_count_after(batch, index);
-        self.pending.append_joined(batch, index + 1, more);
-        match self.target.write_counted(self.pending.bytes.as_slice()) {
-            Ok(()) => {
-                self.state.step_from(batch, index, more + 1);
-                Ok(more + 1)
-            }
-            Err(taken) => {
-                if taken < first_end {
-                    return Err(0);
-                }
-                let size = entry_size(batch);
-                let begun = self.pending.bytes.len() - size * more;
-                let whole = taken.saturating_sub(begun) / size + 1;
-                self.state.step_from(batch, index, whole);
-                Err(whole)
-            }
-        }
+            .append_spelling_at(self.form, self.state.drawing(), batch, index);
+        let put = self.write_with_more(batch, index);
+        self.state.step_from(batch, index, put_count(put));
+        put
     }
 
     /// Writes points that join the run of this opcode or open one. The error has the number taken.
@@ -245,6 +254,16 @@ impl<T: ByteSink + Drop> Writer<T> {
                 Err(whole)
             }
         }
+    }
+}
+
+/// Returns how many entries were put, be it all or those up to a failure.
+#[inline(always)]
+fn put_count(put: Result<usize, usize>) -> usize
+    ensures { result ≡ put_count put }
+{
+    match put {
+        Ok(count) | Err(count) => count,
     }
 }
 

@@ -1,21 +1,96 @@
 //! The answer to a request.
-ghost use Rattle.std.specs.Prelude.{◌≡◌, ◌++◌, [], IfOk, IfSome, IsSome};
+ghost use Rattle.std.specs.Prelude.{◌≡◌, ◌++◌, [], IfOk, IfSome, IsSome, ◌≤◌, false, true, drop, length};
 ghost use Rattle.nap_command.specs.declared.command.Action.TheVariants.{Check};
 ghost use Rattle.nap_command.specs.Commands.{PrintsBy, count_line};
 ghost use Rattle.nap_command.specs.Answers.{AnswersLines, IsAnswer, ShowsText, answer_text, ended_line, page_command, refused_line, unmade_line};
+ghost use Rattle.nap_command.specs.declared.batch.answer.TheConstants.{HEAD_SPACE};
 
 use crate::answer::{Printout, answer_stream, count_line, refusal_line};
-use crate::batch::body::{Body, text_with_space};
 use crate::batch::places::read_places;
 use crate::batch::request::Question;
 use crate::command::{Action, Command};
-use crate::make::lines_failure;
+use crate::execution::lines_failure;
 use itoa::Buffer;
 use nap_canon::{PageText, page_text};
 use nap_lines::LineSink;
 use nap_make::{MakeFault, page_of_lines};
 use nap_reader::{Budget, Refusal, read_counted};
 use std::alloc::{AllocError, Global};
+use std::marker::Model;
+
+/// The space before a body for what goes out first: the line of an accepted page, and the number of bytes of the body.
+pub(crate) const HEAD_SPACE: usize = 64;
+
+/// The memory for the text of most answers.
+const TEXT_SIZE: usize = 32_768;
+
+/// The body of an answer, with space before it or none.
+#[derive(Drop)]
+pub struct Body {
+    text: Vec<u8>,
+    start: usize,
+}
+
+impl Model for Body {
+    ghost use Rattle.std.specs.Prelude.{ℕ, List, ◌≤◌, drop, length};
+
+    ghost Value = { List ℕ };
+
+    ghost view = { λ b. drop b.start b.text.items };
+
+    ghost invariant = { λ b. b.start ≤ length b.text.items };
+}
+
+/// Returns a text of `HEAD_SPACE` bytes, with memory for more.
+pub(crate) fn text_with_space(alloc: Global) -> Result<Vec<u8>, AllocError>
+    ensures { IfOk result (λ text. length text.items ≡ HEAD_SPACE) }
+{
+    let mut text = Vec::with_capacity(alloc, TEXT_SIZE)?;
+    text.extend_from_slice(&[0; HEAD_SPACE])?;
+    Ok(text)
+}
+
+impl Body {
+    /// Makes a body without space before it.
+    pub(crate) fn new(text: Vec<u8>) -> Body
+        ensures { result ≡ text.items }
+    {
+        Body { text, start: 0 }
+    }
+
+    /// Makes the body that comes after the first `HEAD_SPACE` bytes of a text.
+    pub(crate) fn after_space(text: Vec<u8>) -> Body
+        requires { HEAD_SPACE ≤ length text.items }
+        ensures { result ≡ drop HEAD_SPACE text.items }
+    {
+        Body {
+            text,
+            start: HEAD_SPACE,
+        }
+    }
+
+    /// Returns the bytes of the body.
+    pub fn as_slice(&self) -> &[u8]
+        ensures { result.now ≡ self.now }
+    {
+        &self.text[self.start..]
+    }
+
+    /// Puts these bytes before the body if there is space for them, and returns whether there was.
+    pub(crate) fn prepend(&mut self, bytes: &[u8]) -> bool
+        ensures yes { result ≡ true → self.new ≡ bytes.now ++ self.old }
+        ensures no { result ≡ false → self.new ≡ self.old }
+    {
+        if bytes.len() > self.start {
+            return false;
+        }
+        let end = self.start;
+        let start = end - bytes.len();
+        self.text[start..end].copy_from_slice(bytes);
+        self.start = start;
+        true
+    }
+}
 
 /// The answer to a request: a line, and a body (docs/BATCH.md).
 #[derive(Drop)]

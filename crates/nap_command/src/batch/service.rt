@@ -1,15 +1,13 @@
 //! Requests, one after another, and their answers.
 ghost use Rattle.std.specs.Prelude.{◌≡◌, ◌+◌, ◌++◌, IfOk, drop, length, take};
 ghost use Rattle.nap_command.specs.Devices.{devices};
-ghost use Rattle.nap_list.specs.declared.device.inlet.TheConstants.{READ_SIZE};
+ghost use Rattle.nap_list.specs.declared.device.TheConstants.{READ_SIZE};
 ghost use Rattle.nap_command.specs.Requests.{IsWhole};
 ghost use Rattle.nap_command.specs.Sessions.{IsAnswered, IsExchanged, IsHeadSent, IsSent, Replies, Served, Session, pipes};
 
-use crate::batch::answer::answer_page;
-use crate::batch::body::Body;
-use crate::batch::input_buffer::{InputBuffer, LEAST_MEMORY};
+use crate::batch::answer::{Body, answer_page};
 use crate::batch::request::RequestLine;
-use crate::batch::waiting::{FoundRequest, wait};
+use crate::batch::waiting::{FoundRequest, InputBuffer, LEAST_MEMORY, wait};
 use crate::device::write_whole;
 use crate::execution::report;
 use crate::failure::Failure;
@@ -150,6 +148,7 @@ fn exchange<I: Inlet, O: Outlet>(
 }
 
 /// Answers requests until the input ends or a device fails.
+#[inline(never)]
 fn serve<I: Inlet, O: Outlet>(alloc: Global, input: &mut I, output: &mut O) -> Ended
     ensures { let seen = pipes I.Inlet O.Outlet in Session (seen input.old output.old) (seen input.new output.new) result }
 {

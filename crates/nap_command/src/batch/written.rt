@@ -1,6 +1,7 @@
 //! Lines that are written after the places of their entries.
 ghost use Rattle.std.specs.Prelude.{◌≡◌, ◌++◌, ◌+◌, ◌^◌, ◌<◌, ◌≤◌, ℕ, List, [], ◌∷◌, IfOk, decimal, length};
 ghost use Rattle.nap_list.specs.declared.entry.Entry.{Entry};
+ghost use Rattle.nap_list.specs.Range.{InRange};
 ghost use Rattle.nap_lines.specs.Lines.{line};
 
 use itoa::write_digits;
@@ -27,7 +28,7 @@ fn first_line_len(lines: &[u8]) -> usize
     requires { 0 < length lines.now }
     ensures some { 0 < result }
     ensures within { result ≤ length lines.now }
-    ensures first { (e : Entry) (rest : List ℕ) → lines.now ≡ (line e ++ 10 ∷ []) ++ rest → result ≡ length (line e) + 1 }
+    ensures first { (e : Entry) (rest : List ℕ) → InRange e → lines.now ≡ (line e ++ 10 ∷ []) ++ rest → result ≡ length (line e) + 1 }
 {
     match memchr(b'\n', lines) {
         Some(end) => end + 1,

@@ -8,7 +8,7 @@ ghost use Rattle.nap_make.specs.Runs.{LeavesRest, TakesLines};
 ghost use Rattle.nap_lines.specs.Listing.{lines};
 
 use crate::cutting::split_at_byte;
-use crate::lines::fault::MakeFault;
+use crate::lines::MakeFault;
 use crate::lines::maker::LineMaker;
 use nap_list::Sink;
 use std::alloc::Global;

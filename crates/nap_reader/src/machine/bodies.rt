@@ -149,7 +149,10 @@ impl<S: Sink> Machine<S> {
         self.open_run = None;
         if !body.show {
             input.bind(body.name);
-            let _ = self.lexer.step(0x1B);
+            // No code is half-read in a body.
+            if self.lexer.at_rest() {
+                self.lexer.escape();
+            }
             return Ok(());
         }
         input.advance(1);

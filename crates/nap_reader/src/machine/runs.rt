@@ -5,8 +5,8 @@ ghost use Rattle.nap_reader.specs.Stream.{refusal};
 
 use super::{Machine, OpenRun, Request, Taken, took};
 use crate::fault::Fault;
+use crate::input::Slice;
 use crate::prefix::operand_prefix_len;
-use crate::slice::Slice;
 use nap_codes::Opcode;
 use nap_draw::RUN_LIMIT;
 use nap_list::Sink;

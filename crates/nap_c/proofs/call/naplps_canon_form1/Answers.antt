@@ -1,8 +1,4 @@
-use Rattle.std.proofs.Common.{ℕ, [], inl, refl, subst}
-use Rattle.nap_canon.specs.Streams.{list_of}
-use Rattle.nap_canon.specs.Text.{text1}
-use Rattle.nap_c.specs.Texts.{LacksForText}
-use Rattle.nap_c.specs.Answers.{AnswersInBudget}
+use Rattle.nap_c.proofs.Common.{AnswersInBudget, LacksForText, [], inl, list_of, refl, subst, text1, ℕ}
 use Rattle.nap_c.proofs.AnswerLemmas.{answers_text}
 use Rattle.nap_c.proofs.call.naplps_canon_form1.Goals as goal
 

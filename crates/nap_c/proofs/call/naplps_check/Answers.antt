@@ -1,8 +1,5 @@
-use Rattle.std.proofs.Common.{ℕ, ap, inl, refl, subst}
-use Rattle.nap_list.specs.declared.count_sink.CountSink.{CountSink}
-use Rattle.nap_c.specs.Answers.{CountsInBudget}
-use Rattle.nap_c.proofs.AnswerLemmas.{answers_uncounted}
-use Rattle.nap_c.proofs.TextLemmas.{refused_to_count}
+use Rattle.nap_c.proofs.Common.{CountSink, CountsInBudget, ap, inl, refl, subst, ℕ}
+use Rattle.nap_c.proofs.AnswerLemmas.{answers_uncounted, refused_to_count}
 use Rattle.nap_c.proofs.call.naplps_check.Goals as goal
 
 pub returns-in-Err : goal.returns-in-Err

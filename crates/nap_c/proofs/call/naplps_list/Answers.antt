@@ -1,8 +1,5 @@
-use Rattle.std.proofs.Common.{ℕ, [], inl, refl, subst}
-use Rattle.nap_canon.specs.Streams.{list_of}
-use Rattle.nap_reader.specs.Breaking.{BreaksWithin}
+use Rattle.nap_c.proofs.Common.{AnswersInBudget, BreaksWithin, [], inl, list_of, refl, subst, ℕ}
 use Rattle.nap_lines.specs.Listing.{lines}
-use Rattle.nap_c.specs.Answers.{AnswersInBudget}
 use Rattle.nap_c.proofs.AnswerLemmas.{answers_text}
 use Rattle.nap_c.proofs.call.naplps_list.Goals as goal
 

@@ -1,8 +1,4 @@
-use Rattle.std.proofs.Common.{ℕ, ◌∙◌, ap, inl, inr, refl, subst}
-use Rattle.nap_reader.specs.declared.fault.Refusal.{Refusal}
-use Rattle.nap_command.specs.Answers.{places}
-use Rattle.nap_c.specs.Answers.{AnswersInBudget, refused_answer}
-use Rattle.nap_c.specs.Texts.{LacksForText}
+use Rattle.nap_c.proofs.Common.{AnswersInBudget, LacksForText, Refusal, ap, inl, inr, places, refl, refused_answer, subst, ℕ, ◌∙◌}
 use Rattle.nap_c.proofs.AnswerLemmas.{answers_places}
 use Rattle.nap_c.proofs.call.naplps_places.Goals as goal
 

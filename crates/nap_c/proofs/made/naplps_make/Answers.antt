@@ -1,6 +1,5 @@
-use Rattle.std.proofs.Common.{true, false, ap}
-use Rattle.nap_c.specs.declared.made.Made.{Made}
-use Rattle.nap_c.proofs.MadeLemmas.{answers_page}
+use Rattle.nap_c.proofs.Common.{Made, ap, false, true}
+use Rattle.nap_c.proofs.AnswerLemmas.{answers_page}
 use Rattle.nap_c.proofs.made.naplps_make.Goals as goal
 
 pub returns-then-copy_if_fits : goal.returns-then-copy_if_fits

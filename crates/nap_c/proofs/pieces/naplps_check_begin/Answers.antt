@@ -1,6 +1,4 @@
-use Rattle.std.proofs.Common.{ℕ, [], inl, refl, subst, sym}
-use Rattle.nap_c.specs.declared.check.Check.{Check}
-use Rattle.nap_c.specs.Checks.{HasChecked}
+use Rattle.nap_c.proofs.Common.{Check, HasChecked, [], inl, refl, subst, sym, ℕ}
 use Rattle.nap_c.proofs.pieces.naplps_check_begin.Goals as goal
 
 -- a page is begun

@@ -1,7 +1,5 @@
-use Rattle.std.proofs.Common.{ℕ, List, Option, subst, sym}
-use Rattle.nap_c.specs.declared.check.Check.{Check}
-use Rattle.nap_c.specs.Checks.{HasChecked}
-use Rattle.nap_c.specs.Pieces.{FeedsPiece}
+use Rattle.nap_c.proofs.Common.{Check, HasChecked, List, Option, subst, sym, ℕ}
+use Rattle.nap_c.specs.Checks.{FeedsPiece}
 use Rattle.nap_c.proofs.pieces.naplps_check_feed.Goals as goal
 
 -- a piece of the page was read

@@ -1,5 +1,5 @@
 use Rattle.nap_canon.proofs.Common.{Err, IsPlain, IsReadAs, IsTextAnswer, List, ap, err_from_is_err_and, refl, subst, sym, ℕ, ◌∙◌, ◌≡◌}
-use Rattle.nap_canon.specs.declared.fault.CanonFault.TheVariants.{Memory}
+use Rattle.nap_canon.specs.declared.text.CanonFault.TheVariants.{Memory}
 use Rattle.nap_canon.proofs.reading_back.CanonicalLaws.{text_is_read}
 use Rattle.nap_canon.proofs.plain_codes.PlainTexts.{text_is_plain}
 use Rattle.nap_canon.proofs.texts.FaultLemmas.{illegal_there, illegal_nowhere, never_breaks}

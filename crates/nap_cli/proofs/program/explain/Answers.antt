@@ -1,12 +1,9 @@
-use Rattle.std.proofs.Common.{◌≡◌, ◌∙◌, [], Ok, Err, refl, rules, subst, sym}
+use Rattle.nap_cli.proofs.Common.{Err, IsPlainText, Ok, [], or-false, outputs, refl, rules, subst, sym, ◌∙◌}
 use Rattle.std.proofs.KnownBytes.{Appends-nil}
-use Rattle.std.proofs.Math.Bool.{or-false}
 use Rattle.clap.specs.Values.{kind_of}
-use Rattle.nap_command.specs.declared.answer.Verdict.TheVariants as verdict
-use Rattle.nap_cli.specs.Explaining.{outputs}
-use Rattle.nap_cli.specs.Plain.{IsPlainText}
+use Rattle.nap_command.specs.declared.answer.Verdict.{Verdict}
 use Rattle.nap_cli.proofs.ExplainLemmas.{explains_help, explains_memory, explains_wrong, shows_failing, takes_plain}
-use Rattle.nap_cli.proofs.OptionLemmas.{true_or_false}
+use Rattle.nap_cli.proofs.CommandLineLemmas.{true_or_false}
 use Rattle.nap_cli.proofs.program.explain.Goals as goal
 
 pub returns-in_default : goal.returns-in_default
@@ -20,10 +17,10 @@ returns-in-Ok-write_whole g c =
     explains_help (kind_of c.args.error) _ _ _ (λ h. true_or_false c.use_stderr.result c.if-use_stderr.false (c.use_stderr.ensures.1 h)) (record {
       text = c.as_slice-2.result.now;
       e = [];
-      ended = Ok verdict.Accepted;
+      ended = Ok Verdict.Accepted;
       shown = (write.takes, write.failed ∙ or-false _, write.sent, write.flushes);
       reported = Appends-nil (g.E.Outlet.taken c.args.errors.now);
-      tells = record { prefix = refl; all = λ _. refl; status_is = refl };
+      tells = (record { prefix = refl; all = λ _. refl }, refl);
     })
 
 pub returns : goal.returns

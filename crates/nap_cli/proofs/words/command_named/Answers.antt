@@ -1,8 +1,5 @@
-use Rattle.std.proofs.Common.{◌∙◌, codes, false, refl, sym, subst}
-use Rattle.clap.specs.Words.{found_of}
-use Rattle.clap.proofs.WalkLemmas.{one_text-rows}
-use Rattle.nap_cli.specs.CommandLine.{IsBudget}
-use Rattle.nap_cli.proofs.OptionLemmas.{flag_read, flag_unread, number_read, number_unread, number_same, true_or_false}
+use Rattle.nap_cli.proofs.Common.{IsBudget, codes, false, found_of, one_text-rows, refl, subst, sym, ◌∙◌}
+use Rattle.nap_cli.proofs.CommandLineLemmas.{flag_read, flag_unread, number_read, number_unread, number_same, true_or_false}
 use Rattle.nap_cli.proofs.words.command_named.Goals as goal
 
 pub returns-in_err-get_one : goal.returns-in_err-get_one

@@ -1,8 +1,6 @@
-use Rattle.std.proofs.Common.{◌≡◌, ◌∙◌, [], ap, map, string_bytes, subst, sym}
-use Rattle.std.proofs.lemmas.Result.{err_from_is_err_and}
-use Rattle.clap.specs.Words.{App, HasKind, app_of, HasMatchesOf, fault_of, found_of, is_simple_and_free, rows_of}
-use Rattle.nap_cli.specs.CommandLine.{command_line, command_line_by}
-use Rattle.nap_cli.proofs.CommandLineLemmas.{entered_none, fault_found, line_is_free, no_job_said, none_or_some, nothing_entered, says_job, says_nothing}
+use Rattle.nap_cli.proofs.Common.{App, HasKind, HasMatchesOf, [], ap, app_of, command_line, command_line_by, err_from_is_err_and, fault_of, found_of, is_simple_and_free, map, rows_of, string_bytes, subst, sym, ◌∙◌, ◌≡◌}
+use Rattle.std.proofs.lemmas.Option.{none-some}
+use Rattle.nap_cli.proofs.CommandLineLemmas.{entered_none, fault_found, line_is_free, no_job_said, nothing_entered, says_job, says_nothing}
 use Rattle.nap_cli.proofs.words.parse.Goals.{in-Some, in-None}
 use Rattle.nap_cli.proofs.words.parse.Goals as goal
 
@@ -25,7 +23,7 @@ returns-in-Some-said-clause-said c =
     elim c.match-subcommand.branch [
       | in-Some w ↦ says_job words m w.in-Some.name.now (rows_of (found_of w.in-Some.options.now)) has w.in-Some.ensures.name w.in-Some.ensures.rows
           w.job_named-said.result c.in-Some-said.job right w.job_named-said.ensures (sym w.said-is ∙ c.in-Some-said.is)
-      | in-None w ↦ absurd (none_or_some c.in-Some-said.job (sym w.said-is ∙ c.in-Some-said.is))
+      | in-None w ↦ absurd (none-some c.in-Some-said.job (sym w.said-is ∙ c.in-Some-said.is))
     ]
 
 pub returns-clause-fault : goal.returns-clause-fault

@@ -1,9 +1,5 @@
-use Rattle.std.proofs.Common.{◌≡◌, ◌∙◌, true, false, ap, ap₂, codes, string_bytes}
-use Rattle.std.proofs.lemmas.Result.{IfOk-weaker}
-use Rattle.clap.specs.Words.{App, app_of, new_app, with_subcommand}
-use Rattle.clap.specs.Simple.{app_of_fields}
+use Rattle.nap_cli.proofs.Common.{App, IfOk-weaker, ap, app_of, app_of_fields, ap₂, codes, command_app, false, make_app, new_app, page_commands, program_app, string_bytes, true, with_subcommand, ◌∙◌, ◌≡◌}
 use Rattle.clap.specs.declared.builder.command.Command.TheViews.{out-Command as fields_of}
-use Rattle.nap_cli.specs.CommandLine.{command_app, make_app, page_commands, program_app}
 use Rattle.nap_cli.proofs.words.program.Goals as goal
 
 -- there is a version, a command is required, and its name comes first

@@ -1,7 +1,5 @@
-use Rattle.std.proofs.Common.{◌∙◌, codes, sym}
-use Rattle.clap.specs.Words.{found_of}
-use Rattle.clap.proofs.WalkLemmas.{one_text-rows}
-use Rattle.nap_cli.proofs.OptionLemmas.{flag_read, flag_unread}
+use Rattle.nap_cli.proofs.Common.{codes, found_of, one_text-rows, sym, ◌∙◌}
+use Rattle.nap_cli.proofs.CommandLineLemmas.{flag_read, flag_unread}
 use Rattle.nap_cli.proofs.words.stream_chosen.Goals as goal
 
 pub returns-in_err-stream : goal.returns-in_err-stream

@@ -1,11 +1,6 @@
-use Rattle.std.proofs.Common.{◌≡◌, ◌∙◌, false, ◌||◌, rules, ap, ap₂, string_bytes, pos}
-use Rattle.std.proofs.lemmas.Result.{IfOk-weaker}
-use Rattle.clap.specs.Words.{app_of, new_app, rule_of, with_rule}
-use Rattle.clap.specs.Simple.{app_of_fields}
+use Rattle.nap_cli.proofs.Common.{IfOk-weaker, ap, app_of, app_of_fields, ap₂, budget_rule, false, hex_rule, most_budget, new_app, pos, rule_of, rules, string_bytes, with_rule, ◌||◌, ◌∙◌, ◌≡◌}
 use Rattle.clap.specs.declared.builder.command.Command.TheViews.{out-Command as fields_of}
 use Rattle.clap.specs.declared.builder.value_parser.ValueParser.TheVariants.{Signed}
-use Rattle.nap_reader.specs.Budgets.{most_budget}
-use Rattle.nap_cli.specs.CommandLine.{budget_rule, hex_rule}
 use Rattle.nap_cli.proofs.words.subcommand.Goals as goal
 
 pub returns-clause-app : goal.returns-clause-app

@@ -1,5 +1,5 @@
-use Rattle.std.proofs.Common.{◌≡◌, false, true}
-use Rattle.nap_cli.proofs.PlainLemmas.{plain_utf8}
+use Rattle.nap_cli.proofs.Common.{false, true, ◌≡◌}
+use Rattle.nap_cli.proofs.ExplainLemmas.{plain_utf8}
 use Rattle.nap_cli.proofs.wrong.escaped_words.Goals as goal
 
 -- what is shown is UTF-8

@@ -1,5 +1,4 @@
-use Rattle.std.proofs.Common.{◌≡◌, map, string_bytes, take}
-use Rattle.nap_cli.specs.Plain.{shown_words}
+use Rattle.nap_cli.proofs.Common.{map, shown_words, string_bytes, take, ◌≡◌}
 use Rattle.nap_cli.proofs.wrong.escaped_words.Given as goal
 
 -- what there is so far is how the words so far are shown

@@ -1,5 +1,4 @@
-use Rattle.nap_command.proofs.Common.{Appends-nil, Consumes-nil, Err, [], arith, false, inr, refl, sym, true, ◌∙◌, ◌≡◌}
-use Rattle.nap_command.specs.declared.failure.Failure.TheVariants as failure
+use Rattle.nap_command.proofs.Common.{Appends-nil, Consumes-nil, Err, Failure, [], arith, false, inr, refl, sym, true, ◌∙◌, ◌≡◌}
 use Rattle.nap_command.proofs.execution.execute.Goals as goal
 
 -- hexadecimal text isn't converted
@@ -10,7 +9,7 @@ returns-then-command g c =
       p = [];
       q = [];
       e = e;
-      ended = Err failure.Excluded;
+      ended = Err Failure.Excluded;
       read = Consumes-nil _;
       printed = Appends-nil _;
       reported = reported;

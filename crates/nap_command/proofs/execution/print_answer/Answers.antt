@@ -1,28 +1,10 @@
-use Rattle.nap_command.proofs.Common.{Bool, Err, List, TakesText, ap, false, subst, sym, true, ℕ, ◌||◌, ◌∙◌, ◌≡◌}
-use Rattle.nap_command.proofs.CommandLemmas.{ends_after, ends_amid}
-use Rattle.nap_command.proofs.DeviceLemmas.{none_written_amiss}
+use Rattle.nap_command.proofs.Common.{Fails, Finds, reading}
+use Rattle.nap_command.proofs.CommandLemmas.{ends_printing}
 use Rattle.nap_command.proofs.execution.print_answer.Goals as goal
-
-pub returns-in-Ok : goal.returns-in-Ok
-returns-in-Ok g c =
-    let h = c.in-Ok.ensures.found in
-    let write = c.in-Err-write_whole.ensures in
-    let old = g.O.Outlet.taken c.args.output.now in
-    let new = g.O.Outlet.taken c.write_whole.new.output in
-    let fault = c.in-Err-write_whole.fault in
-    let takes = subst (λ (text : List ℕ). TakesText old new text (Err fault)) c.as_slice.ensures.value write.takes in
-    let k = ends_amid c.args.command.now h.0 _ _ _ old new _ fault h.2 takes (write.failed ∙ ap (λ (x : Bool). x || true) c.requires.works) in
-    record {
-      few = c.find_printout.ensures.few;
-      ends = (h.0, k.0, h.1, k.1, k.2);
-      flushes = write.flushes (none_written_amiss _ _ (g.met.O.Outlet.fails_by_write c.args.output.now) c.requires.works);
-      sends = λ works. let bad : false ≡ true = sym works ∙ (write.failed ∙ ap (λ (x : Bool). x || true) c.requires.works) in cc;
-    }
 
 pub returns-clause-ends : goal.returns-clause-ends
 returns-clause-ends g c =
-    let h = c.in-Err.ensures.found in
-    let write = c.in-Err-write_whole-2.ensures in
-    let k = ends_after c.args.command.now h.0 _ c.in-Err.failure (g.O.Outlet.taken c.args.output.now) (g.O.Outlet.taken c.write_whole-in-Err.new.output) _
-    c.in-Err-write_whole-2.fault h.2 write.takes (write.failed ∙ ap (λ (x : Bool). x || true) c.requires.works) in
-    (h.0, k.0, h.1, k.1, k.2)
+    let seen = reading g.I.Inlet c.args.input.now c.find_printout-found.new.input in
+    let (p, read, finds) = c.find_printout-found.ensures.found in
+    let (q, sent, printed) = c.print_found.ensures.ends in
+    (p, q, read, sent, ends_printing (Finds c.args.command.now p seen) (Fails c.args.command.now p seen) c.find_printout-found.result q _ _ finds printed)

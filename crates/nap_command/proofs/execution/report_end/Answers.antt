@@ -2,4 +2,4 @@ use Rattle.nap_command.proofs.Common.{Appends-nil, [], refl}
 use Rattle.nap_command.proofs.execution.report_end.Goals as goal
 
 pub returns-in-Ok : goal.returns-in-Ok
-returns-in-Ok g c = ([], Appends-nil _, rw (c.in-Ok.is) (record { prefix = refl; all = λ _. refl; status_is = c.status.ensures }))
+returns-in-Ok g c = ([], Appends-nil _, rw (c.in-Ok.is) (record { prefix = refl; all = λ _. refl }, c.status.ensures))

@@ -1,11 +1,22 @@
-use Rattle.nap_command.proofs.Common.{Bool, ap, true, ◌||◌, ◌∙◌}
-use Rattle.nap_command.proofs.ListingLemmas.{listed_after}
+use Rattle.nap_command.proofs.Common.{EndsPrinting, Err, Fails, Finds, arith, count_of, length, reading, subst, ℕ, ◌≡◌}
+use Rattle.nap_command.proofs.CommandLemmas.{ends_printing, nothing_printed}
 use Rattle.nap_command.proofs.listing.print_list.Goals as goal
 
-pub returns-in-Err-write_whole-clause-ends : goal.returns-in-Err-write_whole-clause-ends
-returns-in-Err-write_whole-clause-ends g c =
-    let h = c.in-Err.ensures.read in
-    let write = c.in-Err-write_whole.ensures in
-    let k = listed_after c.args.command.now h.0 _ c.in-Err.failure (g.O.Outlet.taken c.args.output) (g.O.Outlet.taken c.write_whole.new.output) _ c.in-Err-write_whole.fault h.2 write.takes
-    (write.failed ∙ ap (λ (x : Bool). x || true) c.requires.works) in
-    (h.0, k.0, h.1, k.1, k.2)
+pub returns-in-Ok-clause-ends : goal.returns-in-Ok-clause-ends
+returns-in-Ok-clause-ends g c =
+    let (p, read, (whole, streams)) = c.in-Ok.ensures.read in
+    let (q, sent, ends) = c.print_lines.ensures.ends in
+    (p, q, read, sent, ends p (reading g.I.Inlet c.args.input.now c.read_page.new.input) whole streams)
+
+pub returns-in-Err-clause-ends : goal.returns-in-Err-clause-ends
+returns-in-Err-clause-ends g c =
+    let seen = reading g.I.Inlet c.args.input.now c.read_page.new.input in
+    let (p, read, failing) = c.in-Err.ensures.read in
+    let (q, sent, printed) = c.print_found-ended.ensures.ends in
+    let finds = Finds c.args.command.now p seen in
+    let fails = Fails c.args.command.now p seen in
+    let b = g.O.Outlet.failed c.print_found-ended.new.output in
+    let ended = c.print_found-ended.result in
+    let none = nothing_printed q b (Err c.in-Err.failure) ended printed in
+    let same : length q ≡ count_of q = rw none (omega arith) in
+    (p, q, read, sent, subst (λ (size : ℕ). EndsPrinting finds fails size q b ended) same (ends_printing finds fails (Err c.in-Err.failure) q b ended failing printed))

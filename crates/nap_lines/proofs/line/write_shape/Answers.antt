@@ -1,8 +1,5 @@
-use Rattle.nap_lines.proofs.Common.{IsUtf8-append, append_assoc, arith, common_steps}
+use Rattle.nap_lines.proofs.ShapeLemmas.{appends_more}
 use Rattle.nap_lines.proofs.line.write_shape.Goals as goal
 
 pub returns-clause-appends : goal.returns-clause-appends
-returns-clause-appends c = (
-  grind (arith, common_steps, append_assoc),
-  λ h. c.in_ok-write_points.ensures.appends.1 (rw c.in_ok-extend_from_slice.ensures.items (IsUtf8-append _ _ h c.as_slice.ensures.utf8)),
-)
+returns-clause-appends c = appends_more _ _ _ _ _ c.write_points.result c.in_ok-write_shape_name.ensures.appends (rw c.as_slice.ensures at c.write_points.ensures.appends)

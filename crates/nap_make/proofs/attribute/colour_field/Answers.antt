@@ -1,5 +1,5 @@
 use Rattle.nap_make.proofs.Common.{ColourInRange, codes, colour_text}
-use Rattle.nap_make.proofs.LayoutLemmas.{reads_keyed}
+use Rattle.nap_make.proofs.CutLemmas.{reads_keyed}
 use Rattle.nap_make.proofs.attribute.colour_field.Goals as goal
 
 pub returns-in_err-text : goal.returns-in_err-text

@@ -1,4 +1,4 @@
-use Rattle.nap_make.proofs.LayoutLemmas.{both_written, no_byte, no_first, no_second, none_alike, written_alike}
+use Rattle.nap_make.proofs.CutLemmas.{both_written, no_byte, no_first, no_second, none_alike, written_alike}
 use Rattle.nap_make.proofs.AttributeLemmas.{texture_pair, texture_parts}
 use Rattle.nap_make.proofs.attribute.texture.Goals as goal
 

@@ -1,5 +1,5 @@
 use Rattle.nap_make.proofs.Common.{Err, PutsLines, [], subst, sym}
-use Rattle.nap_make.proofs.MakeLemmas.{puts_all, puts_none}
+use Rattle.nap_make.proofs.PageLemmas.{puts_all, puts_none}
 use Rattle.nap_make.proofs.lines.put_lines.Goals as goal
 
 pub returns-in-Err : goal.returns-in-Err

@@ -1,5 +1,5 @@
 use Rattle.nap_make.proofs.Common.{List, ap, arith, length, ℕ}
-use Rattle.nap_make.proofs.CodeLemmas.{code_written, high_digit, no_high, no_low}
+use Rattle.nap_make.proofs.NumberLemmas.{code_written, high_digit, no_high, no_low}
 use Rattle.nap_make.proofs.number.code.Goals as goal
 
 pub returns-then-bytes-ne2 : goal.returns-then-bytes-ne2

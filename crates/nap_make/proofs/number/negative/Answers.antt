@@ -1,6 +1,5 @@
 use Rattle.nap_make.proofs.Common.{arith, suc}
-use Rattle.nap_make.proofs.NumberLemmas.{same_number}
-use Rattle.nap_make.proofs.SpellLemmas.{low_neg}
+use Rattle.nap_make.proofs.NumberLemmas.{same_number, low_neg}
 use Rattle.nap_make.proofs.number.negative.Goals as goal
 
 pub returns-in_err-size : goal.returns-in_err-size

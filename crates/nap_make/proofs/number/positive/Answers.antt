@@ -1,5 +1,5 @@
 use Rattle.nap_make.proofs.Common.{arith}
-use Rattle.nap_make.proofs.SpellLemmas.{low_pos}
+use Rattle.nap_make.proofs.NumberLemmas.{low_pos}
 use Rattle.nap_make.proofs.number.positive.Goals as goal
 
 pub returns-in_err-size : goal.returns-in_err-size

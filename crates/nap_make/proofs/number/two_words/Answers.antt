@@ -1,5 +1,5 @@
-use Rattle.nap_make.proofs.LayoutLemmas.{no_byte, no_first, no_second}
-use Rattle.nap_make.proofs.PlaceLemmas.{word_pair}
+use Rattle.nap_make.proofs.CutLemmas.{no_byte, no_first, no_second}
+use Rattle.nap_make.proofs.AttributeLemmas.{word_pair}
 use Rattle.nap_make.proofs.number.two_words.Goals as goal
 
 pub returns-in_err-first : goal.returns-in_err-first

@@ -1,5 +1,5 @@
 use Rattle.nap_make.proofs.Common.{IsWord, decimal}
-use Rattle.nap_make.proofs.LayoutLemmas.{reads_tried}
+use Rattle.nap_make.proofs.CutLemmas.{reads_tried}
 use Rattle.nap_make.proofs.number.word.Goals as goal
 
 pub returns : goal.returns

@@ -1,5 +1,5 @@
 use Rattle.nap_make.proofs.Common.{FitsSort, List, Sort, Value, fields_text, kind_row, subst, sym, ◌≡◌}
-use Rattle.nap_make.proofs.ReadingLemmas.{left_fits, plain_tells, plain_wrong}
+use Rattle.nap_make.proofs.ColumnLemmas.{left_fits, plain_tells, plain_wrong}
 use Rattle.nap_make.proofs.reading.plain_entry.Goals as goal
 
 pub overflow_sub-result : goal.overflow_sub-result

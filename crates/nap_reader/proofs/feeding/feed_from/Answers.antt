@@ -1,5 +1,5 @@
 use Rattle.nap_reader.proofs.{Consumes-kept, Consumes-nil, Err, Ok, [], append-nil, arith, err_from_is_err_and, feeds, gives_more, inl, inr, or-false, or-true, refl, sym, take, ◌++◌, ◌∙◌}
-use Rattle.nap_reader.specs.declared.feeding.FeedFault.TheVariants as feed_fault
+use Rattle.nap_reader.proofs.Common.{FeedFault}
 use Rattle.nap_reader.proofs.feeding.feed_from.Goals as goal
 
 -- a read failed
@@ -7,7 +7,7 @@ pub returns-in_default-clause-feeds : goal.returns-in_default-clause-feeds
 returns-in_default-clause-feeds g c =
     let (p, k, had_read) = c.loop.invariant.read in
     let failed = c.in_default.ensures in
-    feeds k (c.loop.invariant.budget, c.loop.invariant.unrefused) had_read p [] (sym (append-nil p)) (Consumes-kept _ _ _ [] (Consumes-nil _) failed.bytes, omega (arith, failed.calls)) (Err feed_fault.Read) (
+    feeds k (c.loop.invariant.budget, c.loop.invariant.unrefused) had_read p [] (sym (append-nil p)) (Consumes-kept _ _ _ [] (Consumes-nil _) failed.bytes, omega (arith, failed.calls)) (Err FeedFault.Read) (
       inl (record {
         failed = failed.failed ∙ or-true _;
         some = omega (arith, failed.calls, k.calls, c.requires.calls, k.few);
@@ -37,7 +37,7 @@ returns-in_err-feed-clause-feeds g c =
     let piece = take c.in-Ok.count c.read.new.room in
     let (n, stops) = c.in_err-feed.ensures.stops c.loop.invariant.unrefused in
     let fault = err_from_is_err_and c.from_residual.result c.from_residual.ensures.1 in
-    rw (fault.1, fault.2) (feeds k (c.loop.invariant.budget, c.loop.invariant.unrefused) had_read (p ++ piece) piece refl (c.in-Ok.ensures.bytes.0, omega (arith, c.in-Ok.ensures.calls)) (Err (feed_fault.Refused c.in_err-feed.field-0.0))
+    rw (fault.1, fault.2) (feeds k (c.loop.invariant.budget, c.loop.invariant.unrefused) had_read (p ++ piece) piece refl (c.in-Ok.ensures.bytes.0, omega (arith, c.in-Ok.ensures.calls)) (Err (FeedFault.Refused c.in_err-feed.field-0.0))
     (c.in-Ok.ensures.failed ∙ or-false _ ∙ k.flag, c.in_err-feed.ensures.answered) (λ s h. (c.feed.ensures.has_read s p h, (n, stops.within, rw c.loop.invariant.budget at (stops.there s p h)))))
 
 pub loop-preserved : goal.loop-preserved
@@ -62,5 +62,5 @@ loop-preserved g c =
 pub returns-clause-feeds : goal.returns-clause-feeds
 returns-clause-feeds g c =
     let (p, k, had_read) = c.loop.invariant.read in
-    feeds k (c.loop.invariant.budget, c.loop.invariant.unrefused) had_read p [] (sym (append-nil p)) (Consumes-nil _, omega arith) (Err feed_fault.Read)
+    feeds k (c.loop.invariant.budget, c.loop.invariant.unrefused) had_read p [] (sym (append-nil p)) (Consumes-nil _, omega arith) (Err FeedFault.Read)
     (inr (record { none_failed = k.flag; often = omega (arith, k.calls, c.loop-test.false); gave = omega (arith, k.few, c.loop-test.false) }), c.loop.invariant.unrefused) (λ s h. (h, tt))

@@ -1,13 +1,24 @@
-use Rattle.nap_reader.proofs.{ap, arith, count_trailing_zeros, in_block, past_block, sym, ◌∙◌}
+use Rattle.nap_reader.proofs.{arith, in_block, past_block, sym}
 use Rattle.nap_reader.proofs.prefix.prefix_from.Goals as goal
 
 pub returns-then-others-ne0 : goal.returns-then-others-ne0
-returns-then-others-ne0 c =
-    let others = c.others_in-others in
-    let ended = in_block c.args.least c.args.piece.now c.loop-at.at (omega arith) (omega (arith, others.ensures)) ∙ ap (count_trailing_zeros 64) (sym others.ensures) in
+returns-then-others-ne0 c = sym (in_block c.args.least 16 c.args.piece.now 0 (omega arith) _ c.others_in_sixteen-others.ensures (omega arith) (omega arith))
+
+pub loop-at-init : goal.loop-at-init
+loop-at-init c =
+    elim c.if-piece-ge16.branch [
+      | goal.then-piece-ge16+else-others-ne0 w ↦
+          let passed = past_block c.args.least 16 c.args.piece.now 0 (omega (arith, w.if-piece-ge16.true)) (omega (arith, w.others_in_sixteen-others.ensures, w.if-others-ne0.false)) in
+          rw w.at-is (passed, omega (arith, w.if-piece-ge16.true))
+      | goal.else-piece-ge16 w ↦ rw w.at-is (omega arith, omega arith)
+    ]
+
+pub returns-then-others-ne0-2 : goal.returns-then-others-ne0-2
+returns-then-others-ne0-2 c =
+    let ended = in_block c.args.least 32 c.args.piece.now c.loop-at.at (omega arith) _ c.others_in-others.ensures (omega arith) (omega arith) in
     omega (arith, ended, c.loop-at.invariant.0)
 
 pub loop-at-preserved : goal.loop-at-preserved
 loop-at-preserved c =
-    let passed = past_block c.args.least c.args.piece.now c.loop-at.at (omega arith) (omega (arith, c.others_in-others.ensures)) in
+    let passed = past_block c.args.least 32 c.args.piece.now c.loop-at.at (omega arith) (omega (arith, c.others_in-others.ensures)) in
     (omega (arith, passed, c.loop-at.invariant.0), omega arith)

@@ -5,7 +5,7 @@ use Rattle.std.specs.contracts.alloc.Global as heap
 use Rattle.std.proofs.alloc.Global.TheLaws as heap_laws
 use Rattle.std.proofs.ResultValues.{and_tt}
 use Rattle.nap_c.proofs.WalkNames.{◌≡◌, List, [], ◌∷◌, ◌++◌, refl, sym, ap, ◌∙◌, subst, lit<, Val, vptr, vcons, vnil, SProp, ent, emp, id⊢, ftrue, WpFn, ‵, raw, ◌⊛◌, at_ret, ◌$◌, ◌∵◌, !, qed, by, move, keep, split, fsplit3, fjoin, suffices, rewrite, use0, use1, stop, fld, lit, of_opd, bin, no_more, and_then, first, branches, exec, returns, enter, alloc_all, pass_all, free_all, look_at, get, get_in, sets, sets_last, env, agg, sub, whole, fact, fact_i, tables, yes, RattleType, owns, Ptr, block_ptr, null_ptr, ptr_val, tests_null, layout, Slot, types_at, type_at, plain, nothing, Stays, stay_dropped, walk_of, Goes-dropped, None, Some, after, Good, one, proved_at, leaves, ghosts}
-use Rattle.nap_c.specs.contracts.check.Check as check
+use Rattle.nap_c.specs.contracts.pieces.Check as check
 use Rattle.nap_c.specs.contracts.checking.Checking as checking
 use Rattle.nap_c.proofs.LooseLemmas.{Loose, both, loose_good, loose_in}
 use Rattle.nap_c.proofs.KeptLemmas.{ptr_good, alone, checking_out, kept_out}

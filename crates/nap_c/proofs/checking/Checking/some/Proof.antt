@@ -2,7 +2,7 @@
 use Rattle.std.specs.contracts.alloc.Global as heap
 use Rattle.std.proofs.alloc.Global.TheLaws as heap_laws
 use Rattle.nap_c.proofs.WalkNames.{◌≡◌, List, [], ◌∷◌, ◌++◌, refl, sym, subst, Val, vptr, SProp, ent, emp, id⊢, ftrue, WpFn, ‵, raw, ◌⊛◌, ◌$◌, ◌∵◌, !, qed, by, move, keep, split, fsplit, fjoin, suffices, use0, stop, fld, of_opd, no_more, and_then, returns, enter, alloc_all, pass_all, free_all, look_at, get, get_in, sets, agg, sub, whole, fact, fact_i, tables, yes, RattleType, owns, block_ptr, Slot, types_at, plain, nothing, Stays, stay_dropped, walk_of, Goes-dropped, proved_at, leaves, ghosts, Option, Some}
-use Rattle.nap_c.specs.contracts.check.Check as check
+use Rattle.nap_c.specs.contracts.pieces.Check as check
 use Rattle.nap_c.proofs.LooseLemmas.{Loose, both, loose_good, loose_out}
 use Rattle.nap_c.proofs.KeptLemmas.{Known, alone, checking_in, some_kept}
 use Rattle.nap_c.specs.contracts.checking.Checking.some as f

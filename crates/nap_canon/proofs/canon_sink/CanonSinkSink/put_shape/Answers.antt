@@ -1,6 +1,6 @@
 use Rattle.nap_canon.proofs.Common.{Canonical, Err, PutSome, TakesAll, [], canon_sink_model, entry_of_shape, false, subst, sym, ◌∙◌, ◌∷◌, ◌≡◌}
 use Rattle.nap_list.specs.declared.sink.SinkFault.TheVariants.{Write}
-use Rattle.nap_canon.proofs.sinks.PutLemmas.{one_breaks, still_put, takes_all}
+use Rattle.nap_canon.proofs.sinks.PutLemmas.{none_put, one_breaks, sink_of_writer, takes_all}
 use Rattle.nap_canon.proofs.sinks.SinkingLemmas.{took_answered}
 use Rattle.nap_canon.proofs.canon_sink.CanonSinkSink.put_shape.Goals as goal
 use Rattle.nap_canon.proofs.canon_sink.CanonSinkSink.put_shape.Goals.{then-failed-via-then-failed, then-failed-via-else-failed+then-is_err}
@@ -8,15 +8,14 @@ use Rattle.nap_canon.proofs.canon_sink.CanonSinkSink.put_shape.Goals.{then-faile
 pub returns-then-failed : goal.returns-then-failed
 returns-then-failed g c =
     let o = g.O.Outlet in
-    let w = c.self.inside.writer in
-    let s : Canonical _ = record { outlet = w.target.outlet; written = w.target.written; form = w.form; text_end = w.pending.text_end; state = w.state } in
+    let s = sink_of_writer c.self.inside.writer in
     let x = entry_of_shape c.args.shape.now in
     elim c.then-failed.branch [
-      | then-failed-via-then-failed b ↦ subst (λ (t : Canonical _). PutSome {A = Unit {0}} (canon_sink_model o) (x ∷ []) c.args.self.now t (Err Write)) (sym b.self-is)
-          (still_put o c.args.self.now (x ∷ []) (sym c.failed.ensures ∙ b.if-failed.true))
+      | then-failed-via-then-failed b ↦
+          let none = none_put o c.args.self.now (x ∷ []) (sym c.failed.ensures ∙ b.if-failed.true) in
+          subst (λ (t : Canonical _). PutSome {A = Unit {0}} (canon_sink_model o) (x ∷ []) c.args.self.now t (Err Write)) (sym b.self-is) (0, none.0, none.1)
       | then-failed-via-else-failed+then-is_err b ↦
-          let v = b.put_shape.new.self in
-          let t : Canonical _ = record { outlet = v.target.outlet; written = v.target.written; form = v.form; text_end = v.pending.text_end; state = v.state } in
+          let t = sink_of_writer b.put_shape.new.self in
           let works : o.failed s.outlet ≡ false = subst (λ (s : Canonical _). o.failed s.outlet ≡ false) (sym c.self.view_is) (sym c.failed.ensures ∙ b.if-failed.false) in
           subst (λ (t : Canonical _). PutSome {A = Unit {0}} (canon_sink_model o) (x ∷ []) c.args.self.now t (Err Write)) (sym b.self-is)
           (subst (λ (s : Canonical _). PutSome {A = Unit {0}} (canon_sink_model o) (x ∷ []) s t (Err Write)) c.self.view_is
@@ -26,10 +25,8 @@ returns-then-failed g c =
 pub returns : goal.returns
 returns g c =
     let o = g.O.Outlet in
-    let w = c.self.inside.writer in
-    let v = c.put_shape.new.self in
-    let s : Canonical _ = record { outlet = w.target.outlet; written = w.target.written; form = w.form; text_end = w.pending.text_end; state = w.state } in
-    let t : Canonical _ = record { outlet = v.target.outlet; written = v.target.written; form = v.form; text_end = v.pending.text_end; state = v.state } in
+    let s = sink_of_writer c.self.inside.writer in
+    let t = sink_of_writer c.put_shape.new.self in
     let x = entry_of_shape c.args.shape.now in
     let works : o.failed s.outlet ≡ false = subst (λ (s : Canonical _). o.failed s.outlet ≡ false) (sym c.self.view_is) (sym c.failed.ensures ∙ c.if-failed.false) in
     let put = c.put_shape.ensures in

@@ -1,5 +1,4 @@
-use Rattle.nap_canon.proofs.Common.{Command, List, flag_commands, given_size_commands, named_size_commands, text_prelude, ◌++◌}
-use Rattle.nap_canon.specs.declared.command.Flag.TheVariants as flags
+use Rattle.nap_canon.proofs.Common.{Command, Flag, List, flag_commands, given_size_commands, named_size_commands, text_prelude, ◌++◌}
 use Rattle.nap_canon.proofs.texts.WritingLemmas.{commands_as, commands_before}
 use Rattle.nap_canon.proofs.pending.Pending.append_other_look_prelude.Goals as goal
 
@@ -10,10 +9,10 @@ returns-clause-appends c =
     let look = c.args.look.now in
     let t = c.append_command_if-6.new.self in
     let named : List Command = named_size_commands old.size look.size in
-    let reverse : List Command = flag_commands flags.Reverse old.reverse look.reverse in
-    let underline : List Command = flag_commands flags.Underline old.underline look.underline in
-    let wrap : List Command = flag_commands flags.Wrap old.wrap look.wrap in
-    let scroll : List Command = flag_commands flags.Scroll old.scroll look.scroll in
+    let reverse : List Command = flag_commands Flag.Reverse old.reverse look.reverse in
+    let underline : List Command = flag_commands Flag.Underline old.underline look.underline in
+    let wrap : List Command = flag_commands Flag.Wrap old.wrap look.wrap in
+    let scroll : List Command = flag_commands Flag.Scroll old.scroll look.scroll in
     commands_before c.given_size_prelude.result (given_size_commands old look look.size) (named ++ (reverse ++ (underline ++ (wrap ++ scroll)))) c.args.self.now c.append_command_if.new.self t c.given_size_prelude.ensures c.append_command_if.ensures.appends
     (commands_before c.named_size_prelude.result named (reverse ++ (underline ++ (wrap ++ scroll))) c.append_command_if.new.self c.append_command_if-2.new.self t c.named_size_prelude.ensures c.append_command_if-2.ensures.appends
     (commands_before c.flag_prelude.result reverse (underline ++ (wrap ++ scroll)) c.append_command_if-2.new.self c.append_command_if-3.new.self t c.flag_prelude.ensures c.append_command_if-3.ensures.appends

@@ -1,5 +1,4 @@
 use Rattle.nap_canon.proofs.Common.{Batch, Joins, arith, sized_lines, sized_text, subst}
-use Rattle.nap_list.specs.declared.batch.Batch.TheVariants as batches
 use Rattle.nap_canon.proofs.writer.Writer.joining_count.Goals as goal
 
 pub line_start-requires : goal.line_start-requires
@@ -20,6 +19,6 @@ returns-else-ne-2-clause-few g c = omega (arith, c.joining_code_count.ensures.fe
 pub returns-else-ne-clause-some : goal.returns-else-ne-clause-some
 returns-else-ne-clause-some g c joins =
     let w = c.args.self.now in
-    let one : Joins w.form w.pending.text_end w.state (batches.Lines c.in-Lines.from c.in-Lines.points c.in-Lines.drawing) c.args.first 1 =
+    let one : Joins w.form w.pending.text_end w.state (Batch.Lines c.in-Lines.from c.in-Lines.points c.in-Lines.drawing) c.args.first 1 =
     subst (λ (b : Batch). Joins w.form w.pending.text_end w.state b c.args.first 1) c.in-Lines.is joins in
     c.joining_point_count-in-Lines.ensures.some (omega (arith, c.requires.some, sized_lines _ _ _ _ c.in-Lines.is)) one.0.1

@@ -7,11 +7,11 @@ pub returns-in_err-spell_line : goal.returns-in_err-spell_line
 returns-in_err-spell_line g c =
     let e : Entry = Line c.args.from c.args.to c.args.ink.now in
     let failure = err_from_is_err_and c.from_residual.result c.from_residual.ensures.1 in
-    rw failure.1 (prelude_fails g.T.ByteSink.sent c.args.self.now e (ink_attributes c.args.ink.now) refl c.clear.new.self c.clear.ensures c.append_ink_prelude-is_current.new.self c.append_ink_prelude-is_current.ensures.appends c.spell_line.new.self failure.0
+    rw failure.1 (prelude_fails g.T.ByteSink.sent c.args.self.now e (ink_attributes c.args.ink.now) refl c.clear.new.self c.clear.ensures c.drawing.result.now c.drawing.ensures c.append_ink_prelude-is_current.new.self c.append_ink_prelude-is_current.ensures.appends c.spell_line.new.self failure.0
     (one_written g.T.ByteSink.sent _ _ c.spell_line.new.self _ c.in_err-spell_line.ensures))
 
 pub returns : goal.returns
 returns g c =
     let e : Entry = Line c.args.from c.args.to c.args.ink.now in
-    prelude_written g.T.ByteSink.sent c.args.self.now e (ink_attributes c.args.ink.now) refl c.clear.new.self c.clear.ensures c.append_ink_prelude-is_current.new.self c.append_ink_prelude-is_current.ensures.appends c.spell_line.new.self
+    prelude_written g.T.ByteSink.sent c.args.self.now e (ink_attributes c.args.ink.now) refl c.clear.new.self c.clear.ensures c.drawing.result.now c.drawing.ensures c.append_ink_prelude-is_current.new.self c.append_ink_prelude-is_current.ensures.appends c.spell_line.new.self
     (one_written g.T.ByteSink.sent _ _ c.spell_line.new.self _ c.in_ok-spell_line.ensures) _ c.step_line.ensures

@@ -1,6 +1,5 @@
 use Rattle.nap_canon.proofs.Common.{Batch, Joins, List, OnOk, TextEnd, TextJoins, ap, arith, drop, inl, inr, length, length-drop, length-take-le, rules, run_after, sized_lines, sized_text, subst, ℕ, ◌*◌, ◌∙◌, ◌≡◌, ◌≤◌, ◌⊎◌}
 use Rattle.nap_canon.specs.declared.text_end.TextEnd.TheVariants.{NoRun, InRun}
-use Rattle.nap_list.specs.declared.batch.Batch.TheVariants as batches
 use Rattle.nap_codes.specs.declared.code_set.GSet.TheVariants.{G0}
 use Rattle.nap_canon.proofs.writer.Writer.write_joined.Goals as goal
 
@@ -34,6 +33,6 @@ write_text-requires g c =
     let size : length c.part-in-Text.result.now ≡ c.args.count =
     ap length c.part-in-Text.ensures
     ∙ length-take-le c.args.count rest (omega (arith, c.requires.few, sized_text _ _ _ _ _ c.in-Text.is, length-drop c.args.first codes)) in
-    let joins : Joins c.args.self.now.form c.args.self.now.pending.text_end c.args.self.now.state (batches.Text c.in-Text.set c.in-Text.codes c.in-Text.pen c.in-Text.drawing) c.args.first c.args.count =
+    let joins : Joins c.args.self.now.form c.args.self.now.pending.text_end c.args.self.now.state (Batch.Text c.in-Text.set c.in-Text.codes c.in-Text.pen c.in-Text.drawing) c.args.first c.args.count =
     subst (λ (b : Batch). Joins c.args.self.now.form c.args.self.now.pending.text_end c.args.self.now.state b c.args.first c.args.count) c.in-Text.is c.requires.joins in
     record { few = few_codes c.args.self.now.pending.text_end rest c.part-in-Text.result.now c.args.count joins.1 size }

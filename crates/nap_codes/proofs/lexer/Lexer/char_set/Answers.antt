@@ -11,5 +11,5 @@ returns c set =
     let lexer = c.args.self.now in
     let sets : c.self.inside.sets ≡ lexer.sets = ap (λ (l : LexerState). l.sets) c.self.view_is in
     let here : c.char_set.result ≡ char_set_of (set_at lexer.sets lexer.sets.gl) =
-    c.char_set.ensures ∙ ap char_set_of c.set_at.ensures ∙ ap (λ (s : CodeSets). char_set_of (set_at s s.gl)) sets in
+    c.char_set.ensures ∙ ap char_set_of c.self.invariant.1 ∙ ap (λ (s : CodeSets). char_set_of (set_at s s.gl)) sets in
     rw here (all_in_gl lexer set (c.if-not-at_rest.ensures.rests.0 refl))

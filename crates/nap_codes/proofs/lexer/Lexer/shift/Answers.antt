@@ -1,16 +1,19 @@
-use Rattle.nap_codes.proofs.Common.{LexerState, List, [], after_control0, ap, half_read_bytes, ℕ, ◌∙◌, ◌≡◌}
-use Rattle.nap_codes.specs.declared.code_set.CodeSets.{CodeSets}
-use Rattle.nap_codes.proofs.ControlLemmas.{shift_steps}
+use Rattle.nap_codes.proofs.Common.{LexerState, [], ap, half_read_bytes, rules, ◌∙◌, ◌≡◌}
+use Rattle.nap_codes.specs.declared.code_set.GSet.TheVariants.{G0, G1}
+use Rattle.nap_codes.proofs.ControlLemmas.{shift_in_steps, shift_out_steps}
+use Rattle.nap_codes.proofs.NextLemmas.{same_lexer}
 use Rattle.nap_codes.proofs.lexer.Lexer.shift.Goals as goal
 
-pub returns : goal.returns
-returns c =
+pub returns-then-byte-eq14 : goal.returns-then-byte-eq14
+returns-then-byte-eq14 c =
     let lexer = c.args.self.now in
-    let byte = c.args.byte in
-    let after = c.after_control0-self-inside.result in
-    let sets : after ≡ after_control0 lexer.sets byte =
-    c.after_control0-self-inside.ensures ∙ ap (λ (l : LexerState). after_control0 l.sets byte) c.self.view_is in
     let half : half_read_bytes c.self.inside.half ≡ [] = ap (λ (l : LexerState). l.half) c.self.view_is ∙ c.requires.0 in
-    let new : LexerState = record { sets = after; half = half_read_bytes c.self.inside.half } in
-    shift_steps lexer new byte c.requires.0 c.requires.1
-    (ap (λ (s : CodeSets). record new { sets = s }) sets ∙ ap (λ (h : List ℕ). record { sets = after_control0 lexer.sets byte; half = h }) half)
+    shift_out_steps lexer _ c.args.byte c.requires.0 (search rules)
+    (same_lexer (record { sets = record lexer.sets { gl = G1 }; half = [] }) _ (ap (λ (l : LexerState). record l.sets { gl = G1 }) c.self.view_is) half)
+
+pub returns-else-byte-eq14 : goal.returns-else-byte-eq14
+returns-else-byte-eq14 c =
+    let lexer = c.args.self.now in
+    let half : half_read_bytes c.self.inside.half ≡ [] = ap (λ (l : LexerState). l.half) c.self.view_is ∙ c.requires.0 in
+    shift_in_steps lexer _ c.args.byte c.requires.0 (search rules)
+    (same_lexer (record { sets = record lexer.sets { gl = G0 }; half = [] }) _ (ap (λ (l : LexerState). record l.sets { gl = G0 }) c.self.view_is) half)

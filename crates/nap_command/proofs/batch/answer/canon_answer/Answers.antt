@@ -1,5 +1,5 @@
 use Rattle.nap_command.proofs.Common.{IfOk-weaker}
-use Rattle.nap_command.proofs.PageAnswerLemmas.{answers_spelled}
+use Rattle.nap_command.proofs.AnswerLemmas.{answers_spelled}
 use Rattle.nap_command.proofs.batch.answer.canon_answer.Goals as goal
 
 pub returns-in-Ok : goal.returns-in-Ok

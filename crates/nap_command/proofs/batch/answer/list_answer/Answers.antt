@@ -1,6 +1,5 @@
-use Rattle.nap_command.proofs.Common.{HEAD_SPACE, IfOk-weaker, LineSinkState, ap, arith, drop, drop_at, length, length-append, lines, list_of, refl, ◌++◌, ◌∙◌}
-use Rattle.nap_command.specs.declared.batch.request.Question.TheVariants as question
-use Rattle.nap_command.proofs.PageAnswerLemmas.{answers_accepted, answers_refused}
+use Rattle.nap_command.proofs.Common.{HEAD_SPACE, IfOk-weaker, LineSinkState, Question, ap, arith, drop, drop_at, length, length-append, lines, list_of, refl, ◌++◌, ◌∙◌}
+use Rattle.nap_command.proofs.AnswerLemmas.{answers_accepted, answers_refused}
 use Rattle.nap_command.proofs.batch.answer.list_answer.Goals as goal
 
 pub after_space-requires : goal.after_space-requires
@@ -19,11 +18,11 @@ returns-in-Ok c =
     let k = c.in-Ok.ensures.counts in
     let made = c.into_text.ensures ∙ (k.1.text ∙ ap (λ (s : LineSinkState). s.text ++ all) c.over.ensures) in
     let body = c.after_space.ensures ∙ (ap (drop HEAD_SPACE) made ∙ drop_at front all HEAD_SPACE c.in_ok-text.ensures) in
-    IfOk-weaker c.accepted_answer.result _ _ (λ a h. answers_accepted question.List budget page a.line.items a.body c.in-Ok.count k.0 k.2 (h.0, h.1) (h.2 ∙ body))
+    IfOk-weaker c.accepted_answer.result _ _ (λ a h. answers_accepted Question.List budget page a.line.items a.body c.in-Ok.count k.0 k.2 (h.0, h.1) (h.2 ∙ body))
     c.accepted_answer.ensures
 
 pub returns-in-Err : goal.returns-in-Err
 returns-in-Err c =
     let r = c.in-Err.refusal in
-    let answers = answers_refused question.List (λ h. cc) c.args.budget c.args.page.now refl _ c.over.result r.fault r.place c.in-Err.ensures (λ t. refl) in
+    let answers = answers_refused Question.List (λ h. cc) c.args.budget c.args.page.now refl _ c.over.result r.fault r.place c.in-Err.ensures (λ t. refl) in
     IfOk-weaker c.refused_answer.result _ _ (λ a h. answers a.line.items a.body h) c.refused_answer.ensures

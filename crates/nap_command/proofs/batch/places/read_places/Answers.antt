@@ -1,7 +1,5 @@
-use Rattle.nap_command.proofs.Common.{BreaksWithin, HasRead, IfOk-weaker, LineSinkState, List, [], ap, arith, begun, budget_of, drop, length, length-drop, length-take-le, lines, lines_on, means, subst, sym, take, take-append-drop, ℕ, ◌++◌, ◌+◌, ◌-◌, ◌∙◌, ◌≡◌, ◌≢◌, ◌≤◌}
-use Rattle.nap_list.specs.declared.entry.Entry.{Entry}
-use Rattle.nap_reader.specs.declared.fault.Fault.TheVariants as fault
-use Rattle.nap_command.proofs.PlaceLemmas.{BrokenAfter, IsFed, all_places, breaks_at, breaks_last, broke_apart, came, came_last, kept, kept_refused, last_count, last_new, lines_taken, next_count, next_new, next_same, next_has_read, next_written, no_entries, no_lines, none_before, own_cause, rest_is, still_refused, stops_so, true_isnt, whole_page, written_last}
+use Rattle.nap_command.proofs.Common.{BreaksWithin, Entry, Fault, HasRead, IfOk-weaker, LineSinkState, List, [], ap, arith, begun, budget_of, drop, false≢true, length, length-drop, length-take-le, lines, lines_on, means, subst, sym, take, take-append-drop, ℕ, ◌++◌, ◌+◌, ◌-◌, ◌∙◌, ◌≡◌, ◌≢◌, ◌≤◌}
+use Rattle.nap_command.proofs.PlaceLemmas.{BrokenAfter, IsFed, all_places, breaks_at, breaks_last, broke_apart, came, came_last, kept, kept_refused, last_count, last_new, lines_taken, next_count, next_new, next_same, next_has_read, next_written, no_entries, no_lines, none_before, own_cause, rest_is, still_refused, stops_so, whole_page, written_last}
 use Rattle.nap_command.proofs.batch.places.read_places.Goals as goal
 
 pub loop-place-init : goal.loop-place-init
@@ -52,13 +50,13 @@ returns-in-Err c =
     let within : i + n ≤ length page =
     omega (arith, c.loop-place-test.true, c.stride_of-count.ensures.count, c.ahead.ensures.within, ap (λ (bs : List ℕ). length bs) (rest_is page i), length-drop i page) in
     let (m, stops) = c.in-Err.ensures.stops inv.live in
-    let k = λ (apart : q.fault ≢ fault.Memory).
+    let k = λ (apart : q.fault ≢ Fault.Memory).
     kept_refused lines_taken new budget (take (i + n) page) (next_has_read lines_taken f) (next_same lines_taken f) q c.in-Err.ensures.answered
-    (own_cause q.fault apart (λ is. true_isnt (c.in-Err.ensures.failed inv.live is))) in
-    let fresh = λ (apart : q.fault ≢ fault.Memory).
+    (own_cause q.fault apart (λ is. false≢true (c.in-Err.ensures.failed inv.live is))) in
+    let fresh = λ (apart : q.fault ≢ Fault.Memory).
     next_new lines_taken f c.loop-place.written.known c.text-lines.result.now inv.size (c.text-lines.ensures ∙ (ap (λ (s : LineSinkState). s.text) c.sink.ensures.now ∙ (k apart).0)) in
     stops_so budget page c.stopped_places.result q (text ++ lines_on i step (came lines_taken f)) c.stopped_places.ensures.ended c.stopped_places.ensures.memory
-    (IfOk-weaker c.stopped_places.result (BrokenAfter q.fault c.loop-place.written.known c.text-lines.result.now text i step) (λ r. q.fault ≢ fault.Memory → r.text.items ≡ text ++ lines_on i step (came lines_taken f))
+    (IfOk-weaker c.stopped_places.result (BrokenAfter q.fault c.loop-place.written.known c.text-lines.result.now text i step) (λ r. q.fault ≢ Fault.Memory → r.text.items ≡ text ++ lines_on i step (came lines_taken f))
     (λ r h apart. h apart (came lines_taken f) (fresh apart)) c.stopped_places.ensures.own)
     (λ apart. (
       ap (λ (bs : List ℕ). (means budget bs).refusal) (sym (take-append-drop (i + n) page)) ∙ still_refused budget (take (i + n) page) (drop (i + n) page) q (k apart).1,
@@ -137,13 +135,13 @@ returns-in-Err-finish c =
     let end : i ≡ length page = omega (arith, inv.within, c.loop-place-test.false) in
     let has_read = subst (λ (bs : List ℕ). HasRead reader no_lines bs) (whole_page budget page i end) inv.has_read in
     let last = came_last budget page i end in
-    let taken = λ (apart : q.fault ≢ fault.Memory).
-    c.in-Err-finish.ensures.err (own_cause q.fault apart (λ is. true_isnt (c.in-Err-finish.ensures.failed inv.live is))) no_lines page has_read in
-    let fresh = λ (apart : q.fault ≢ fault.Memory).
+    let taken = λ (apart : q.fault ≢ Fault.Memory).
+    c.in-Err-finish.ensures.err (own_cause q.fault apart (λ is. false≢true (c.in-Err-finish.ensures.failed inv.live is))) no_lines page has_read in
+    let fresh = λ (apart : q.fault ≢ Fault.Memory).
     last_new budget page i end c.loop-place.written.known c.text-in-Err-finish.result.now inv.size
     (c.text-in-Err-finish.ensures ∙ ((taken apart).1.text ∙ ap (λ (b : ℕ). lines (means b page).entries) inv.budget)) in
     stops_so budget page c.stopped_places-in-Err-finish.result q (text ++ lines_on i 0 last) c.stopped_places-in-Err-finish.ensures.ended c.stopped_places-in-Err-finish.ensures.memory
-    (IfOk-weaker c.stopped_places-in-Err-finish.result (BrokenAfter q.fault c.loop-place.written.known c.text-in-Err-finish.result.now text i 0) (λ r. q.fault ≢ fault.Memory → r.text.items ≡ text ++ lines_on i 0 last)
+    (IfOk-weaker c.stopped_places-in-Err-finish.result (BrokenAfter q.fault c.loop-place.written.known c.text-in-Err-finish.result.now text i 0) (λ r. q.fault ≢ Fault.Memory → r.text.items ≡ text ++ lines_on i 0 last)
     (λ r h apart. h apart last (fresh apart)) c.stopped_places-in-Err-finish.ensures.own)
     (λ apart. (
       ap (λ (b : ℕ). (means b page).refusal) (sym inv.budget) ∙ (taken apart).0,

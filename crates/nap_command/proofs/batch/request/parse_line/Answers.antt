@@ -1,4 +1,4 @@
-use Rattle.nap_command.proofs.RequestLemmas.{no_second, parts_of}
+use Rattle.nap_command.proofs.FrontLemmas.{no_second, parts_of}
 use Rattle.nap_command.proofs.batch.request.parse_line.Goals as goal
 
 pub returns-in_err-budget_digits : goal.returns-in_err-budget_digits

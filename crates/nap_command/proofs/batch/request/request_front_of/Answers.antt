@@ -1,12 +1,13 @@
 use Rattle.nap_command.proofs.Common.{arith, length, refl, ◌-◌}
-use Rattle.nap_command.proofs.FrontLemmas.{is_more, long_line, uncut_open, wrong_line}
+use Rattle.nap_make.proofs.PublicLaws.{uncut}
+use Rattle.nap_command.proofs.FrontLemmas.{is_more, long_line, wrong_line}
 use Rattle.nap_command.proofs.batch.request.request_front_of.Goals as goal
 
 pub returns-then-bytes-gt-LINE_LIMIT : goal.returns-then-bytes-gt-LINE_LIMIT
 returns-then-bytes-gt-LINE_LIMIT c = long_line c.args.bytes.now c.in_default.ensures (omega (arith, c.if-bytes-gt-LINE_LIMIT.true))
 
 pub returns-in_default : goal.returns-in_default
-returns-in_default c = record { endless = λ _. record { none = uncut_open c.args.bytes.now c.in_default.ensures; few = omega (arith, c.if-bytes-gt-LINE_LIMIT.false) }; short = λ some. absurd (some refl) }
+returns-in_default c = record { endless = λ _. record { none = uncut 10 c.args.bytes.now c.in_default.ensures; few = omega (arith, c.if-bytes-gt-LINE_LIMIT.false) }; short = λ some. absurd (some refl) }
 
 pub returns-in_default-parse_line : goal.returns-in_default-parse_line
 returns-in_default-parse_line c = wrong_line c.args.bytes.now c.in-Some.line.now c.in-Some.following.now c.in-Some.ensures c.in_default-parse_line.ensures

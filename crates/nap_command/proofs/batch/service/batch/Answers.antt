@@ -1,12 +1,10 @@
-use Rattle.nap_command.proofs.Common.{Appends-nil, [], refl}
-use Rattle.nap_command.specs.declared.failure.Failure.TheVariants as failure
-use Rattle.nap_command.specs.declared.batch.service.Ended.TheVariants as ended
-use Rattle.nap_command.proofs.ReportLemmas.{memory_reported, read_reported, report_of_line, report_of_end, write_reported}
+use Rattle.nap_command.proofs.Common.{Appends-nil, Ended, [], refl}
+use Rattle.nap_command.proofs.CommandLemmas.{reported_written}
 use Rattle.nap_command.proofs.batch.service.batch.Goals as goal
 
 pub returns-in-Done : goal.returns-in-Done
 returns-in-Done g c = record {
-  end = ended.Done;
+  end = Ended.Done;
   session = c.in-Done.ensures;
   e = [];
   reported = Appends-nil _;
@@ -16,23 +14,20 @@ returns-in-Done g c = record {
 
 pub returns-in-Request : goal.returns-in-Request
 returns-in-Request g c =
-    let t = report_of_line _ _ c.write_whole.result _ _ ended.Request c.write_whole.ensures.takes c.write_whole.ensures.failed in
-    record { end = ended.Request; session = c.in-Request.ensures; e = t.0; reported = t.1; tells = t.2; status_is = refl }
+    let t = reported_written _ _ _ c.write_whole.result _ _ c.write_whole.ensures.takes c.write_whole.ensures.failed in
+    record { end = Ended.Request; session = c.in-Request.ensures; e = t.0; reported = t.1; tells = t.2; status_is = refl }
 
 pub returns-in-Read : goal.returns-in-Read
 returns-in-Read g c =
-    let t = c.report.ensures in
-    let k = report_of_end t.0 _ ended.Read failure.Read _ read_reported t.2 in
-    record { end = ended.Read; session = c.in-Read.ensures; e = t.0; reported = t.1; tells = k.0; status_is = k.1 }
+    let (e, reported, (tells, is)) = c.report.ensures in
+    record { end = Ended.Read; session = c.in-Read.ensures; e = e; reported = reported; tells = tells; status_is = is }
 
 pub returns-in-Write : goal.returns-in-Write
 returns-in-Write g c =
-    let t = c.report-in-Write.ensures in
-    let k = report_of_end t.0 _ (ended.Write c.in-Write.taken) (failure.Write c.in-Write.taken) _ (write_reported c.in-Write.taken) t.2 in
-    record { end = ended.Write c.in-Write.taken; session = c.in-Write.ensures; e = t.0; reported = t.1; tells = k.0; status_is = k.1 }
+    let (e, reported, (tells, is)) = c.report-in-Write.ensures in
+    record { end = Ended.Write c.in-Write.taken; session = c.in-Write.ensures; e = e; reported = reported; tells = tells; status_is = is }
 
 pub returns-in-Memory : goal.returns-in-Memory
 returns-in-Memory g c =
-    let t = c.report-in-Memory.ensures in
-    let k = report_of_end t.0 _ ended.Memory failure.Memory _ memory_reported t.2 in
-    record { end = ended.Memory; session = c.in-Memory.ensures; e = t.0; reported = t.1; tells = k.0; status_is = k.1 }
+    let (e, reported, (tells, is)) = c.report-in-Memory.ensures in
+    record { end = Ended.Memory; session = c.in-Memory.ensures; e = e; reported = reported; tells = tells; status_is = is }

@@ -1,5 +1,4 @@
-use Rattle.nap_command.proofs.Common.{Buffered, FindsRequest, IsWhole, KeepsWithin, List, Ok, ap, append-nil, drop, reading, refl, subst, sym, take, ℕ, ◌++◌, ◌+◌, ◌∙◌, ◌≡◌}
-use Rattle.nap_command.specs.declared.batch.waiting.FoundRequest.{FoundRequest}
+use Rattle.nap_command.proofs.Common.{Buffered, FindsRequest, FoundRequest, IsWhole, KeepsWithin, List, Ok, ap, append-nil, drop, reading, refl, subst, sym, take, ℕ, ◌++◌, ◌+◌, ◌∙◌, ◌≡◌}
 use Rattle.nap_command.proofs.ExchangeLemmas.{answered, dropped_exchange, exchange_of, is_dropped, is_exchange, parts_of, unasked}
 use Rattle.nap_command.proofs.batch.service.exchange.Goals as goal
 

@@ -1,6 +1,5 @@
-use Rattle.nap_command.proofs.Common.{Consumes-nil, Consumes-trans, Ended, Err, FoundRequest, IsFound, IsLast, IsWhole, List, NeverStarts, Result, [], ap, append-nil, append_assoc, arith, err_from_is_err_and, length-append, refl, rules, subst, sym, ℕ, ◌++◌, ◌∙◌, ◌≡◌}
-use Rattle.nap_command.specs.declared.batch.waiting.ReadStep.TheVariants as step
-use Rattle.nap_command.proofs.MemoryLemmas.{stays_within}
+use Rattle.nap_command.proofs.Common.{Consumes-nil, Consumes-trans, Ended, Err, FoundRequest, IsFound, IsLast, IsWhole, List, NeverStarts, ReadStep, Result, [], ap, append-nil, append_assoc, arith, err_from_is_err_and, length-append, refl, rules, subst, sym, ℕ, ◌++◌, ◌∙◌, ◌≡◌}
+use Rattle.nap_command.proofs.FrontLemmas.{stays_within}
 use Rattle.nap_command.proofs.WaitLemmas.{finds_dropped, finds_end, finds_last, finds_whole, finds_wrong, longer}
 use Rattle.nap_command.proofs.batch.waiting.wait.Goals as goal
 
@@ -18,7 +17,7 @@ loop-reads-init g c = record {
 pub loop-reads-preserved : goal.loop-reads-preserved
 loop-reads-preserved g c =
     let inv = c.loop-reads.invariant in
-    let is : c.in_ok-read_more-in-More.field-0 ≡ step.Longer = search rules in
+    let is : c.in_ok-read_more-in-More.field-0 ≡ ReadStep.Longer = search rules in
     let h = rw is at c.in_ok-read_more-in-More.ensures.steps in
     let (buffer, some, works) = h.steps in
     record {
@@ -54,7 +53,7 @@ returns-in_err-read_more-in-More-clause-found g c =
 pub returns-then-eq-clause-found : goal.returns-then-eq-clause-found
 returns-then-eq-clause-found g c =
     let inv = c.loop-reads.invariant in
-    let is : c.in_ok-read_more-in-More.field-0 ≡ step.Dropped = search rules in
+    let is : c.in_ok-read_more-in-More.field-0 ≡ ReadStep.Dropped = search rules in
     finds_dropped g.I.Inlet _ _ inv.bytes _ _ inv.read inv.buffer inv.flag inv.keeps _ _ (rw is at c.in_ok-read_more-in-More.ensures.steps)
 
 pub returns-clause-found : goal.returns-clause-found

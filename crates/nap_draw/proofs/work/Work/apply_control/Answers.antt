@@ -1,6 +1,5 @@
 use Rattle.nap_draw.proofs.Common.{Ok, [], ap, code_rule, refl, rule_result, walk, ◌≡◌}
 use Rattle.nap_codes.specs.declared.code.Code.{Code}
-use Rattle.nap_codes.specs.declared.code.Code.TheVariants as codes
 use Rattle.nap_draw.proofs.Acting.{obeys_quietly}
 use Rattle.nap_draw.proofs.work.Work.apply_control.Goals as goal
 
@@ -29,21 +28,21 @@ unfolding walk
 returns-in_default g c = obeys_quietly g.S.Sink _ c.args.self.now _ c.args.sink.now (g.met.S.Sink.took_none c.args.sink.now) (other c.args.code.now refl)
   where
     other : (code : Code) → c.args.code.now ≡ code → code_rule c.args.self.now code ≡ Ok (rule_result c.args.self.now [])
-    other codes.Bell is = absurd (c.in_default.not-Bell is)
-    other (codes.Step x) is = absurd (c.in_default.not-Step x is)
-    other codes.Clear is = absurd (c.in_default.not-Clear is)
-    other (codes.Char x y) is = absurd (c.in_default.not-Char x y is)
-    other (codes.Repeat x) is = absurd (c.in_default.not-Repeat x is)
-    other codes.ToEol is = absurd (c.in_default.not-ToEol is)
-    other (codes.Named x) is = absurd (c.in_default.not-Named x is)
-    other (codes.Reverse x) is = absurd (c.in_default.not-Reverse x is)
-    other (codes.Underline x) is = absurd (c.in_default.not-Underline x is)
-    other (codes.Wrap x) is = absurd (c.in_default.not-Wrap x is)
-    other (codes.Scroll x) is = absurd (c.in_default.not-Scroll x is)
-    other (codes.BlinkMark x) is = absurd (c.in_default.not-BlinkMark x is)
-    other (codes.Cursor x) is = absurd (c.in_default.not-Cursor x is)
-    other (codes.DefGlyph x) is = absurd (c.in_default.not-DefGlyph x is)
-    other (codes.DefMask x) is = absurd (c.in_default.not-DefMask x is)
-    other (codes.DefMacro x y) is = absurd (c.in_default.not-DefMacro x y is)
-    other codes.End is = absurd (c.in_default.not-End is)
+    other Code.Bell is = absurd (c.in_default.not-Bell is)
+    other (Code.Step x) is = absurd (c.in_default.not-Step x is)
+    other Code.Clear is = absurd (c.in_default.not-Clear is)
+    other (Code.Char x y) is = absurd (c.in_default.not-Char x y is)
+    other (Code.Repeat x) is = absurd (c.in_default.not-Repeat x is)
+    other Code.ToEol is = absurd (c.in_default.not-ToEol is)
+    other (Code.Named x) is = absurd (c.in_default.not-Named x is)
+    other (Code.Reverse x) is = absurd (c.in_default.not-Reverse x is)
+    other (Code.Underline x) is = absurd (c.in_default.not-Underline x is)
+    other (Code.Wrap x) is = absurd (c.in_default.not-Wrap x is)
+    other (Code.Scroll x) is = absurd (c.in_default.not-Scroll x is)
+    other (Code.BlinkMark x) is = absurd (c.in_default.not-BlinkMark x is)
+    other (Code.Cursor x) is = absurd (c.in_default.not-Cursor x is)
+    other (Code.DefGlyph x) is = absurd (c.in_default.not-DefGlyph x is)
+    other (Code.DefMask x) is = absurd (c.in_default.not-DefMask x is)
+    other (Code.DefMacro x y) is = absurd (c.in_default.not-DefMacro x y is)
+    other Code.End is = absurd (c.in_default.not-End is)
     other _ is = refl

@@ -1,5 +1,4 @@
-use Rattle.nap_draw.proofs.Common.{Area, DrawFault, EqualCurrent, Ok, Pen, Result, Some, [], and_then, ap, clears_nothing, entry_result, field_on, moves_of, operand_words, pen_only, refl, rule_result, sym, ◌∙◌, ◌∷◌}
-use Rattle.nap_list.specs.declared.entry.Entry.TheVariants as entries
+use Rattle.nap_draw.proofs.Common.{Area, DrawFault, Entry, EqualCurrent, Ok, Pen, Result, Some, [], and_then, ap, clears_nothing, entry_result, field_on, moves_of, operand_words, pen_only, refl, rule_result, sym, ◌∙◌, ◌∷◌}
 use Rattle.nap_draw.proofs.Acting.{does_as, does_refused}
 use Rattle.nap_draw.proofs.Walks.{left_by}
 use Rattle.nap_draw.proofs.Areas.{area_stream}
@@ -12,7 +11,7 @@ put_and_set_pen-requires g c =
     rw c.pen-pen.ensures (record {
       agrees = c.requires;
       follows = record { holds = current; made = tt; comes = tt };
-      leaves = left_by s (entries.Field c.in_ok-area.area s.drawing.pen) current c.requires.drawing.mode;
+      leaves = left_by s (Entry.Field c.in_ok-area.area s.drawing.pen) current c.requires.drawing.mode;
     })
 
 pub returns-in_err-area : goal.returns-in_err-area
@@ -26,4 +25,4 @@ returns g c =
     let w = c.args.self.now in
     let area = c.in_ok-area.area in
     let by = ap (λ (r : Result Area DrawFault). and_then r (λ area. entry_result w field_on (Some area))) (sym c.in_ok-area.ensures) in
-    does_as g.S.Sink clears_nothing _ _ _ _ _ _ _ _ (by ∙ ap (λ (pen : Pen). Ok (rule_result w (entries.Field area pen ∷ []))) (sym c.pen-pen.ensures)) c.put_and_set_pen.ensures.does
+    does_as g.S.Sink clears_nothing _ _ _ _ _ _ _ _ (by ∙ ap (λ (pen : Pen). Ok (rule_result w (Entry.Field area pen ∷ []))) (sym c.pen-pen.ensures)) c.put_and_set_pen.ensures.does

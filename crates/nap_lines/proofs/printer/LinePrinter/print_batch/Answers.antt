@@ -1,4 +1,4 @@
-use Rattle.nap_lines.proofs.Common.{Printing, ap, arith, batch_entries, false, passes_none, sym, true, ◌<◌, ◌∙◌, ◌≡◌}
+use Rattle.nap_lines.proofs.Common.{Printing, ap, arith, batch_entries, false, passes_none, sym, true, ◌∙◌, ◌≡◌}
 use Rattle.nap_lines.proofs.PrintLemmas.{chunk, sent_on}
 use Rattle.nap_lines.proofs.printer.LinePrinter.print_batch.Goals as goal
 

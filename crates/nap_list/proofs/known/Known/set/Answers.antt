@@ -1,12 +1,25 @@
-use Rattle.nap_list.proofs.Common.{List, MapColour, ap, filter-from_retain, not, rules, take, without_address, ◌==◌, ◌∙◌, ◌∷◌, ◌≡◌}
+use Rattle.nap_list.proofs.Common.{List, MapColour, ap, arith, get_or, items-with_items, length, length-set, refill, set, sym, ◌<◌, ◌∙◌, ◌≡◌}
+use Rattle.nap_list.proofs.KnownLemmas.{shift_no, shift_yes, shifted_all}
 use Rattle.nap_list.proofs.known.Known.set.Goals as goal
+use Rattle.nap_list.proofs.known.Known.set.Goals.{then-ne, else-ne}
 
-pub returns : goal.returns
-returns c =
-    let colour : MapColour = record { addr = c.args.addr; grb = c.args.grb } in
-    let known : List MapColour = c.self.inside.colours.items in
-    let kept : c.retain.new.self.items ≡ without_address c.args.addr known =
-    filter-from_retain _ (λ (x : MapColour). not (x.addr == c.args.addr)) _ (λ x b f' y k. search rules) _ _ c.retain.ensures.filtered in
-    let fewer : c.truncate.new.self.items ≡ take 15 (without_address c.args.addr known) = c.truncate.ensures.items ∙ ap (take 15) kept in
-    let all : c.insert.new.self.items ≡ colour ∷ take 15 (without_address c.args.addr known) = c.insert.ensures.items ∙ ap (λ (rest : List MapColour). colour ∷ rest) fewer in
-    rw (← c.self.view_is) all
+pub loop-i-preserved : goal.loop-i-preserved
+loop-i-preserved c =
+    let old = c.index-deref-i.result in
+    let colours : List MapColour = c.loop-i.self-inside.colours.items in
+    let less : c.loop-i.i < length colours = omega (arith, c.loop-i-test.true, c.len-i-end.ensures.value, c.loop-i.invariant.long) in
+    let is : old ≡ get_or colours c.loop-i.i old = c.index-deref-i.is ∙ ap (λ (xs : List MapColour). get_or xs c.loop-i.i old) c.deref.ensures.0 in
+    elim c.if-ne.branch [
+      | then-ne w ↦
+          let written : List MapColour = set colours c.loop-i.kept c.loop-i.next in
+          let filled : refill (length colours) colours (set w.deref_mut.result.now c.loop-i.kept c.loop-i.next) ≡ written =
+          ap (λ (xs : List MapColour). refill (length colours) colours (set xs c.loop-i.kept c.loop-i.next)) w.deref_mut.ensures.value ∙ items-with_items (record { items = colours }) written (length-set colours c.loop-i.kept c.loop-i.next) in
+          rw (w.next-is, w.kept-is, w.self-inside-is, filled) (shift_yes old c.loop-i.invariant less (sym w.if-ne.ensures) is)
+      | else-ne w ↦ rw (w.next-is, w.kept-is, w.self-inside-is) (shift_no old c.loop-i.invariant less (sym w.if-ne.ensures) is)
+    ]
+
+pub returns-else-kept-lt-KNOWN : goal.returns-else-kept-lt-KNOWN
+returns-else-kept-lt-KNOWN c =
+    let h = c.loop-i.invariant in
+    rw (← c.self.view_is) (c.truncate.ensures.items
+    ∙ shifted_all 15 h (omega (arith, c.loop-i-test.false, c.len-i-end.ensures.value)) (omega (arith, c.if-kept-lt-KNOWN.false, h.behind, h.within, c.len-i-end.ensures.value, c.len-i-end.ensures.fits)))

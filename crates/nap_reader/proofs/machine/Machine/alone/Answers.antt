@@ -1,7 +1,7 @@
 use Rattle.nap_reader.proofs.{All, All-head, CharSet, Lexes, List, None, Option, Some, TextStep, AreCharacters, IsTextByte, alone_acts, alone_stops, ap, are_typed, arith, code_as, first_byte, format_effector, lexes_alone, refl, slice_get, subst, sym, ℕ, [], ◌++◌, ◌∙◌, ◌∷◌, ◌≡◌}
 use Rattle.nap_codes.specs.Front as codes
 use Rattle.nap_codes.specs.Lexer.{LexerState}
-use Rattle.nap_codes.specs.declared.code.Code.TheVariants as code
+use Rattle.nap_reader.proofs.Common.{Code}
 use Rattle.nap_reader.proofs.machine.Machine.alone.Goals as goal
 use Rattle.nap_reader.proofs.machine.Machine.alone.Goals.{In_default-format_effector}
 
@@ -24,7 +24,7 @@ returns-in-Some-format_effector g c = λ ended following.
     rw (first_byte c.args.text.now c.in-Some.byte.now (sym c.in-Some.ensures.value)).1 (c.effector.ensures ended _)
 
 -- The byte is a character.
-character : (g : _) (c : In_default-format_effector g) → Lexes c.args.self.now c.in-Some.byte.now (code.Char c.args.set c.in-Some.byte.now) c.args.self.now.lexer.sets
+character : (g : _) (c : In_default-format_effector g) → Lexes c.args.self.now c.in-Some.byte.now (Code.Char c.args.set c.in-Some.byte.now) c.args.self.now.lexer.sets
 character g c = lexes_alone c.requires.closed c.requires.set.rested (code_is c.args.self.now.lexer c.args.set c.args.text.now c.in-Some.byte.now None c.requires.set c.requires.typed (sym c.in-Some.ensures.value) (sym c.in_default-format_effector.ensures))
 
 pub returns-in-Ok : goal.returns-in-Ok

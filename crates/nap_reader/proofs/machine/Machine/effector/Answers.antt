@@ -1,9 +1,9 @@
 use Rattle.nap_reader.proofs.{alone_acts, alone_stops, arith, front_made, lexes_alone, refl}
-use Rattle.nap_codes.specs.declared.code.Code.TheVariants as code
+use Rattle.nap_reader.proofs.Common.{Code}
 use Rattle.nap_reader.proofs.machine.Machine.effector.Goals as goal
 
 pub control-requires-clause-made : goal.control-requires-clause-made
-control-requires-clause-made g c = front_made _ _ (code.Step c.args.step) _ _ c.requires.is
+control-requires-clause-made g c = front_made _ _ (Code.Step c.args.step) _ _ c.requires.is
 
 pub returns-in-Ok : goal.returns-in-Ok
 returns-in-Ok g c = λ ended following.

@@ -1,58 +1,91 @@
-use Rattle.nap_reader.proofs.{kept_as, IsRuled, [], acts, arith, binds, fault_takes, front_made, get_or, half_takes, macro_takes, nothing_takes, opcode_read, refl, rested, ruled_stops, ruled_takes, strays_takes, sym, takes_none, takes_then, ◌∙◌, ◌≡◌}
-use Rattle.nap_reader.proofs.CodesLemmas.{EndsCode}
+use Rattle.nap_reader.proofs.{kept_as, Bool, Codes, DoesNothing, Fault, Ghosts, List, arith, codes_from, idle_lives, idle_takes, inl, length-rest_of, refl, stopped_from, ℕ, ◌∙◌, ◌≢◌}
+use Rattle.nap_reader.specs.declared.machine.Machine.{Machine}
+use Rattle.nap_reader.specs.declared.machine.codes.CodeOutcome.{CodeOutcome}
 use Rattle.nap_reader.proofs.machine.Machine.other.Goals as goal
-use Rattle.nap_reader.proofs.machine.Machine.other.Goals.{After-control, In-Code}
+use Rattle.nap_reader.proofs.machine.Machine.other.Goals.{In_default}
 
--- The byte ends the code.
-ends : (g : _) (c : In-Code g) → EndsCode c.args.self.now.lexer.sets c.args.self.now.lexer.half c.args.self.now.open_run (get_or c.args.slice.now.bytes.now c.args.at 0) c.in-Code.code c.step.new.self.sets
-ends g c = grind arith
+pub overflow_add-at : goal.overflow_add-at
+overflow_add-at g c = omega (arith, (c.in-Acted.ensures c.args.ended).within.1, length-rest_of c.args.slice.now.bytes.now c.args.at, c.requires.within)
 
-pub returns-in-More-clause-takes : goal.returns-in-More-clause-takes
-returns-in-More-clause-takes g c = rw c.took.ensures (1, refl, half_takes (grind arith) (grind arith) refl c.requires.live)
+pub returns-in-Acted-clause-some : goal.returns-in-Acted-clause-some
+returns-in-Acted-clause-some g c = rw c.took.ensures (inl (omega (arith, (c.in-Acted.ensures c.args.ended).within.0)))
 
-pub returns-in-Fault-clause-takes : goal.returns-in-Fault-clause-takes
-returns-in-Fault-clause-takes g c =
-    let kept = rw (c.from.ensures, c.place_of.ensures) at c.stop.ensures.kept in
-    rw c.stop.ensures.answer (0, omega arith, fault_takes c.in-Fault.fault (grind arith) c.requires.closed kept.is kept.sink)
+pub returns-in-Acted-clause-closed : goal.returns-in-Acted-clause-closed
+returns-in-Acted-clause-closed g c = λ none few. (c.in-Acted.ensures c.args.ended).closed ∙ c.requires.closed
 
-pub open-requires-clause-is : goal.open-requires-clause-is
-open-requires-clause-is g c =
-    let read = opcode_read (ends g (goal.at.open-requires-clause-is g c).In-Code) (sym c.in-Opens.ensures) in
-    let none : c.step.new.self.half ≡ [] = grind arith in
-    rw none read.1
+pub returns-in-Acted-clause-takes : goal.returns-in-Acted-clause-takes
+returns-in-Acted-clause-takes g c =
+    let slice = c.args.slice.now in
+    rw c.took.ensures (c.in-Acted.more, refl, codes_from slice.place slice.step slice.bytes.now c.args.at c.requires.within (c.in-Acted.ensures c.args.ended))
 
-pub returns-in-Opens-clause-takes : goal.returns-in-Opens-clause-takes
-returns-in-Opens-clause-takes g c =
-    let (n, is, takes) = c.open.ensures.takes in
-    let lexer : c.step.new.self ≡ rested c.step.new.self.sets = grind arith in
-    let read = lexer ∙ (opcode_read (ends g (goal.at.returns-in-Opens-clause-takes g c).In-Code) (sym c.in-Opens.ensures)).0 in
-    (n, is, takes_then (takes_none (record { before = c.requires.closed; closed = c.requires.closed; work_is = refl; lexer_is = read; kept = kept_as refl refl }) refl c.requires.live) takes (omega arith))
+pub overflow_add-at-in-Clears : goal.overflow_add-at-in-Clears
+overflow_add-at-in-Clears g c = omega (arith, (c.in-Clears.ensures c.args.ended).within.1, length-rest_of c.args.slice.now.bytes.now c.args.at, c.requires.within)
 
-pub returns-in-Strays-clause-takes : goal.returns-in-Strays-clause-takes
-returns-in-Strays-clause-takes g c =
-    let kept = rw c.place_of-in-Strays.ensures at c.stop-in-Strays.ensures.kept in
-    rw c.stop-in-Strays.ensures.answer (0, omega arith, strays_takes (ends g (goal.at.returns-in-Strays-clause-takes g c).In-Code) (sym c.in-Strays.ensures) kept.is kept.sink)
+pub returns-in-Clears-clause-some : goal.returns-in-Clears-clause-some
+returns-in-Clears-clause-some g c = rw c.took_with.ensures (inl (omega (arith, (c.in-Clears.ensures c.args.ended).within.0)))
 
-pub returns-in-AddsNothing-clause-takes : goal.returns-in-AddsNothing-clause-takes
-returns-in-AddsNothing-clause-takes g c =
-    rw c.took-in-AddsNothing.ensures (1, refl, nothing_takes (ends g (goal.at.returns-in-AddsNothing-clause-takes g c).In-Code) (sym c.in-AddsNothing.ensures) (grind arith) refl c.requires.live)
+pub returns-in-Clears-clause-takes : goal.returns-in-Clears-clause-takes
+returns-in-Clears-clause-takes g c =
+    let slice = c.args.slice.now in
+    rw c.took_with.ensures (c.in-Clears.more, refl, codes_from slice.place slice.step slice.bytes.now c.args.at c.requires.within (c.in-Clears.ensures c.args.ended))
+
+pub overflow_add-at-in-Calls : goal.overflow_add-at-in-Calls
+overflow_add-at-in-Calls g c = omega (arith, (c.in-Calls.ensures c.args.ended).within.1, length-rest_of c.args.slice.now.bytes.now c.args.at, c.requires.within)
+
+pub returns-in-Calls-clause-some : goal.returns-in-Calls-clause-some
+returns-in-Calls-clause-some g c = rw c.took_with-in-Calls.ensures (inl (omega (arith, (c.in-Calls.ensures c.args.ended).within.0)))
 
 pub returns-in-Calls-clause-takes : goal.returns-in-Calls-clause-takes
-returns-in-Calls-clause-takes g c = (1, refl, macro_takes (ends g (goal.at.returns-in-Calls-clause-takes g c).In-Code) (sym c.in-Calls.ensures) (grind arith) refl c.requires.live)
+returns-in-Calls-clause-takes g c =
+    let slice = c.args.slice.now in
+    rw c.took_with-in-Calls.ensures (c.in-Calls.more, refl, codes_from slice.place slice.step slice.bytes.now c.args.at c.requires.within (c.in-Calls.ensures c.args.ended))
 
-pub control-requires-clause-made : goal.control-requires-clause-made
-control-requires-clause-made g c = front_made _ _ c.in-Code.code _ _ (ends g (goal.at.control-requires-clause-made g c).In-Code).whole
+pub overflow_add-at-in-Defines : goal.overflow_add-at-in-Defines
+overflow_add-at-in-Defines g c = omega (arith, (c.in-Defines.ensures c.args.ended).within.1, length-rest_of c.args.slice.now.bytes.now c.args.at, c.requires.within)
 
--- The code draws by a rule.
-ruled : (g : _) (c : After-control g) → IsRuled c.in-Code.code c.match-of.request
-ruled g c = grind (arith, acts, binds)
+pub returns-in-Defines-clause-some : goal.returns-in-Defines-clause-some
+returns-in-Defines-clause-some g c = rw c.took_with-in-Defines.ensures (inl (omega (arith, (c.in-Defines.ensures c.args.ended).within.0)))
 
-pub returns-in-Ok-clause-takes : goal.returns-in-Ok-clause-takes
-returns-in-Ok-clause-takes g c =
-    let acted = c.in-Ok.ensures.acts in
-    (1, refl, ruled_takes (ends g (goal.at.returns-in-Ok-clause-takes g c).In-Code) {entries = acted.0} (ruled g (goal.at.returns-in-Ok-clause-takes g c).After-control) (grind arith) (grind arith) (grind arith) g.met.S.Sink.took_more g.met.S.Sink.wants_more)
+pub returns-in-Defines-clause-takes : goal.returns-in-Defines-clause-takes
+returns-in-Defines-clause-takes g c =
+    let slice = c.args.slice.now in
+    rw c.took_with-in-Defines.ensures (c.in-Defines.more, refl, codes_from slice.place slice.step slice.bytes.now c.args.at c.requires.within (c.in-Defines.ensures c.args.ended))
 
-pub returns-in-Err-clause-takes : goal.returns-in-Err-clause-takes
-returns-in-Err-clause-takes g c =
-    let kept = rw (c.from-in-Err.ensures, c.place_of-in-Err.ensures) at c.stop-in-Err.ensures.kept in
-    rw c.stop-in-Err.ensures.answer (0, omega arith, ruled_stops (ends g (goal.at.returns-in-Err-clause-takes g c).In-Code) {fault = c.in-Err.fault} (ruled g (goal.at.returns-in-Err-clause-takes g c).After-control) (grind arith) (grind arith) kept.is kept.sink)
+pub overflow_add-at-in-Stopped : goal.overflow_add-at-in-Stopped
+overflow_add-at-in-Stopped g c = omega (arith, (c.in-Stopped.ensures c.args.ended).within.0, length-rest_of c.args.slice.now.bytes.now c.args.at, c.requires.within)
+
+pub overflow_add-at-in-Stopped-2 : goal.overflow_add-at-in-Stopped-2
+overflow_add-at-in-Stopped-2 g c = omega (arith, (c.in-Stopped.ensures c.args.ended).within.1, length-rest_of c.args.slice.now.bytes.now c.args.at, c.requires.within)
+
+pub place_of-requires : goal.place_of-requires
+place_of-requires g c = omega (arith, (c.in-Stopped.ensures c.args.ended).within.1, length-rest_of c.args.slice.now.bytes.now c.args.at, c.requires.within)
+
+pub returns-in-Stopped-clause-takes : goal.returns-in-Stopped-clause-takes
+returns-in-Stopped-clause-takes g c =
+    let slice = c.args.slice.now in
+    rw c.stop.ensures.answer (c.in-Stopped.more, refl, stopped_from slice.place slice.step slice.bytes.now c.args.at c.requires.within (c.in-Stopped.ensures c.args.ended) (rw c.place_of.ensures at c.stop.ensures.kept))
+
+-- Nothing was done.
+idle : {S : Type 0} {g : Ghosts S} {old mid : Machine S g} {bytes : List ℕ} {ended : Bool} (outcome : CodeOutcome) → Codes old mid bytes ended outcome → ((n : ℕ) → outcome ≢ CodeOutcome.Acted n) → ((n : ℕ) → outcome ≢ CodeOutcome.Clears n) → ((n : ℕ) (fault : Fault) (i : ℕ) → outcome ≢ CodeOutcome.Stopped n fault i) →
+    ((n name : ℕ) → outcome ≢ CodeOutcome.Calls n name) → ((n name : ℕ) (show : Bool) → outcome ≢ CodeOutcome.Defines n name show) → DoesNothing old mid
+idle CodeOutcome.Other codes acted clears stopped calls defines = codes.within
+idle (CodeOutcome.Opens op) codes acted clears stopped calls defines = rw codes.within.0 record { kept = kept_as refl refl; work = refl; lexer = refl; sink = refl; refusal = refl }
+idle (CodeOutcome.Acted n) codes acted clears stopped calls defines = absurd (acted n refl)
+idle (CodeOutcome.Clears n) codes acted clears stopped calls defines = absurd (clears n refl)
+idle (CodeOutcome.Stopped n fault i) codes acted clears stopped calls defines = absurd (stopped n fault i refl)
+idle (CodeOutcome.Calls n name) codes acted clears stopped calls defines = absurd (calls n name refl)
+idle (CodeOutcome.Defines n name show) codes acted clears stopped calls defines = absurd (defines n name show refl)
+
+did_nothing : (g : _) (c : In_default g) → DoesNothing c.args.self.now c.rest_of_escape.new.self
+did_nothing g c = idle c.rest_of_escape.result (c.rest_of_escape.ensures c.args.ended) c.in_default.not-Acted c.in_default.not-Clears c.in_default.not-Stopped c.in_default.not-Calls c.in_default.not-Defines
+
+pub any_byte-requires-clause-live : goal.any_byte-requires-clause-live
+any_byte-requires-clause-live g c = idle_lives (did_nothing g (goal.at.any_byte-requires-clause-live g c).In_default) c.requires.live
+
+pub any_byte-requires-clause-closed : goal.any_byte-requires-clause-closed
+any_byte-requires-clause-closed g c = (c.rest_of_escape.ensures c.args.ended).closed ∙ c.requires.closed
+
+pub returns-in_default-clause-takes : goal.returns-in_default-clause-takes
+returns-in_default-clause-takes g c =
+    let (n, is, takes) = c.any_byte.ensures.takes in
+    (n, is, idle_takes (did_nothing g (goal.at.returns-in_default-clause-takes g c).In_default) c.requires.live c.requires.closed (c.rest_of_escape.ensures c.args.ended).closed takes)

@@ -1,20 +1,15 @@
 use Rattle.nap_reader.proofs.{arith, opcode_alone, opens_drawn, refl}
-use Rattle.nap_codes.specs.declared.code.Code.TheVariants as code
+use Rattle.nap_reader.proofs.Common.{Code}
 use Rattle.nap_reader.proofs.machine.codes.front_of.Goals as goal
 
 pub returns-in-Some : goal.returns-in-Some
 returns-in-Some c =
     let front = c.in-Some.ensures.front in
-    record { rested = ((c.opcode.ensures.is c.in-Some.op).0 c.in-Some.is).0; drawn = opens_drawn _ _ (code.Op c.in-Some.op) _ _ _ front refl; alone = opcode_alone _ _ _ front; names = front }
+    record { rested = ((c.opcode.ensures.is c.in-Some.op).0 c.in-Some.is).0; drawn = opens_drawn _ _ (Code.Op c.in-Some.op) _ _ _ front refl; alone = opcode_alone _ _ _ front; names = front }
 
 pub returns-in-Some-char_set : goal.returns-in-Some-char_set
 returns-in-Some-char_set c =
     let chars = (c.char_set.ensures c.in-Some-char_set.set).0 c.in-Some-char_set.is in
-    record { rested = (chars 0x20 (omega arith, omega arith)).0; chars = λ b graphic. (chars b graphic).1 }
-
-pub returns-in-Some-char_set-2 : goal.returns-in-Some-char_set-2
-returns-in-Some-char_set-2 c =
-    let chars = (c.char_set-in-Some-format_effector.ensures c.in-Some-char_set-2.set).0 c.in-Some-char_set-2.is in
     record { rested = (chars 0x20 (omega arith, omega arith)).0; chars = λ b graphic. (chars b graphic).1 }
 
 pub returns-in-None-char_set : goal.returns-in-None-char_set

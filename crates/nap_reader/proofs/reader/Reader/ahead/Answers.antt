@@ -1,5 +1,4 @@
-use Rattle.nap_reader.proofs.Common.{IsOpcode}
-use Rattle.nap_reader.specs.declared.reader.ahead.Ahead.TheVariants as answer
+use Rattle.nap_reader.proofs.Common.{Ahead, IsOpcode}
 use Rattle.nap_reader.proofs.{AllCharacters, List, None, Some, ap, arith, at_prefix, budget_of, first_byte, is_of_text, is_operand_byte, opcode_alone, prefix_len, slice_get, subst, sym, ℕ, ◌+◌, ◌∙◌, ◌≡◌}
 use Rattle.nap_reader.proofs.AheadLemmas.{after_first, closed_by_characters, no_operand, opcode_adds, text_adds}
 use Rattle.nap_reader.proofs.reader.Reader.ahead.Goals as goal
@@ -36,7 +35,7 @@ returns-then-count-gt0-clause-adds_entries g c = λ live s p has_read.
 pub returns-in-Some-opcode-clause-counts : goal.returns-in-Some-opcode-clause-counts
 returns-in-Some-opcode-clause-counts g c = λ none. (
   λ b rest op parts low is.
-      ap (λ (n : ℕ). answer.First (1 + n)) (rw parts at c.operand_prefix_len.ensures ∙ ap (prefix_len is_operand_byte) (after_first b rest)),
+      ap (λ (n : ℕ). Ahead.First (1 + n)) (rw parts at c.operand_prefix_len.ensures ∙ ap (prefix_len is_operand_byte) (after_first b rest)),
   λ set chars some. absurd (opcode_alone c.args.self.now.machine.lexer.sets c.in-Some.byte.now c.in-Some-opcode.field-0 c.in-Some-opcode.ensures.front set (λ b graphic. (chars b graphic).1)),
 )
 

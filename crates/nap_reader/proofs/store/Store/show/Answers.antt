@@ -12,4 +12,4 @@ returns-clause-ok c =
     ∙ ap (λ (xs : List ℕ). xs ++ c.args.ender ∷ []) (c.push_reserved.ensures.items ∙ ap (λ (xs : List ℕ). xs ++ 0x1B ∷ []) same)
     ∙ append_assoc s.bytes.items (0x1B ∷ []) (c.args.ender ∷ []) in
     let from : c.len-self-inside.result ≡ length t.items = c.len-self-inside.ensures ∙ t.ok.0 in
-    rw (from, c.from.ensures, items, ← c.self.view_is) (bound_grown s.bytes.items s.spans s.from s.stored s.promise c.args.name c.args.ender c.len-end.result c.self.invariant.bound c.self.invariant.begun all)
+    rw (from, c.from.ensures, items, ← c.self.view_is) (bound_grown s.bytes.items s.spans s.from s.stored s.promise c.args.name c.args.ender c.len-end.result c.self.invariant.0.bound c.self.invariant.0.begun all)

@@ -1,6 +1,5 @@
-use Rattle.nap_command.proofs.Common.{List, ap, append-nil, arith, drop, length, length-drop, lines_on, refl, sym, take, take_all, ℕ, ◌++◌, ◌+◌, ◌-◌, ◌∙◌, ◌≡◌, ◌≤◌}
-use Rattle.nap_list.specs.declared.entry.Entry.{Entry}
-use Rattle.nap_command.proofs.WriteLemmas.{all_known, none_left, one_less}
+use Rattle.nap_command.proofs.Common.{Entry, List, ap, append-nil, arith, drop, length, length-drop, lines_on, refl, sym, take, take_all, ℕ, ◌++◌, ◌+◌, ◌-◌, ◌∙◌, ◌≡◌, ◌≤◌}
+use Rattle.nap_command.proofs.LineLemmas.{all_known, none_left, one_less}
 use Rattle.nap_command.proofs.batch.written.Written.write_new.Goals as goal
 
 pub loop-self-init : goal.loop-self-init

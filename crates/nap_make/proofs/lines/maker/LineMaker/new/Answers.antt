@@ -1,4 +1,4 @@
-use Rattle.nap_make.proofs.MakerLemmas.{put_none}
+use Rattle.nap_make.proofs.NextEntryLemmas.{put_none}
 use Rattle.nap_make.proofs.lines.maker.LineMaker.new.Goals as goal
 
 pub returns-clause-holds : goal.returns-clause-holds

@@ -1,7 +1,6 @@
-use Rattle.nap_make.proofs.Common.{AllFit, Err, MakeFault, PutsEntries, State, ap, arith, refl, subst, sym, text_count, text_entries, walk, ◌∙◌}
-use Rattle.nap_list.specs.declared.attribute.Pen.TheVariants.{After}
+use Rattle.nap_make.proofs.Common.{After, AllFit, Err, MakeFault, PutsEntries, State, ap, arith, refl, subst, sym, text_count, text_entries, walk, ◌∙◌}
 use Rattle.nap_make.proofs.CharLemmas.{last_code, last_fits, no_text, text_defines, text_fits, text_hand, text_left, text_proper, text_unended}
-use Rattle.nap_make.proofs.RunLemmas.{none_more, none_put, puts_all, puts_some}
+use Rattle.nap_make.proofs.NextEntryLemmas.{none_more, none_put, puts_all, puts_some}
 use Rattle.nap_make.proofs.lines.maker.LineMaker.put_codes.Goals as goal
 
 pub put_batch-requires : goal.put_batch-requires

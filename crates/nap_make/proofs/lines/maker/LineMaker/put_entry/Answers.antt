@@ -1,5 +1,5 @@
 use Rattle.nap_make.proofs.Common.{Entry, Err, Fits, List, State, [], ap, append-nil, subst}
-use Rattle.nap_make.proofs.MakerLemmas.{put_more}
+use Rattle.nap_make.proofs.NextEntryLemmas.{put_more}
 use Rattle.nap_make.proofs.lines.maker.LineMaker.put_entry.Goals as goal
 
 pub returns-in-Ok-clause-puts : goal.returns-in-Ok-clause-puts

@@ -1,7 +1,6 @@
-use Rattle.nap_make.proofs.Common.{All, IsCode, List, ap, arith, code_lines, err_from_is_err_and, length, length-append, subst, sym, text_entries, ℕ, ◌++◌, ◌∙◌}
-use Rattle.nap_list.specs.declared.attribute.Pen.TheVariants.{After}
+use Rattle.nap_make.proofs.Common.{After, All, IsCode, List, ap, arith, code_lines, err_from_is_err_and, length, length-append, subst, sym, text_entries, ℕ, ◌++◌, ◌∙◌}
 use Rattle.nap_make.proofs.CharLemmas.{text_fits, text_lines, text_proper}
-use Rattle.nap_make.proofs.RunLemmas.{some_stop}
+use Rattle.nap_make.proofs.NextEntryLemmas.{some_stop}
 use Rattle.nap_make.proofs.lines.maker.LineMaker.take_alike.Goals as goal
 
 pub returns-in_err-put_codes-clause-takes : goal.returns-in_err-put_codes-clause-takes

@@ -1,7 +1,7 @@
 use Rattle.nap_make.proofs.Common.{Err, LineFault, TellsLine, [], ap, err_from_is_err_and, lines, refl, subst, ℕ, ◌++◌, ◌+◌, ◌∙◌, ◌∷◌}
-use Rattle.nap_make.specs.declared.lines.fault.MakeFault.TheVariants.{Memory}
+use Rattle.nap_make.specs.declared.lines.MakeFault.TheVariants.{Memory}
 use Rattle.nap_make.proofs.FeedLemmas.{entry_refused, line_stops, refused_stops}
-use Rattle.nap_make.proofs.RunLemmas.{more_result, one_taken}
+use Rattle.nap_make.proofs.NextEntryLemmas.{more_result, one_taken}
 use Rattle.nap_make.proofs.lines.maker.LineMaker.take_line.Goals as goal
 
 pub returns-in_default-clause-takes : goal.returns-in_default-clause-takes

@@ -1,5 +1,5 @@
 use Rattle.nap_make.proofs.Common.{Err, LineFault, TellsLine, arith, subst}
-use Rattle.nap_make.proofs.NoLineLemmas.{column_after}
+use Rattle.nap_make.proofs.FeedLemmas.{column_after}
 use Rattle.nap_make.proofs.lines.maker.LineMaker.unended_line_fault.Goals as goal
 use Rattle.nap_make.proofs.lines.maker.LineMaker.unended_line_fault.Goals.{in-Ok, in-Err-Line, in-Err-Memory}
 

@@ -1,6 +1,6 @@
 use Rattle.nap_make.proofs.Common.{All, All-append, LineMaker, List, MakerHasPut, MatchResult, StopsLines, TakesLines, [], ap, arith, err_from_is_err_and, lines, nil_from_length, refl, subst, sym, ℕ, ◌++◌, ◌∙◌, ◌∷◌, ◌≡◌, ◌≢◌}
 use Rattle.nap_make.proofs.FeedLemmas.{part_refused, refused_stops}
-use Rattle.nap_make.proofs.RunLemmas.{always_ok}
+use Rattle.nap_make.proofs.NextEntryLemmas.{always_ok}
 use Rattle.nap_make.proofs.lines.reader.LineReader.end_line.Goals as goal
 
 pub returns-then-len-eq0-clause-part : goal.returns-then-len-eq0-clause-part

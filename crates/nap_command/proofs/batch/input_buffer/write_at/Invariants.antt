@@ -1,9 +1,0 @@
-use Rattle.nap_command.proofs.Common.{take, vec_capacity, ◌++◌, ◌≡◌}
-use Rattle.nap_command.proofs.batch.input_buffer.write_at.Given as goal
-
--- what there is, and the bytes so far after it
-abbrev pub invariant-loop-byte : goal.invariant-loop-byte
-invariant-loop-byte l = record {
-  bytes : l.bytes.items ≡ take l.end l.fn.bytes.items ++ take l.byte-index l.more;
-  memory : vec_capacity l.bytes ≡ vec_capacity l.fn.bytes;
-}

@@ -1,0 +1,8 @@
+use Rattle.nap_draw.proofs.Common.{Filling, false, moves, operand_words, points_reached, subst, ℕ, ◌≡◌}
+use Rattle.nap_draw.proofs.Decoding.{filling_even}
+use Rattle.nap_draw.proofs.scratch.fill_any_steps.Goals as goal
+
+pub returns-clause-fills : goal.returns-clause-fills
+returns-clause-fills c =
+    let Whole : ℕ → Type 0 = λ k. Filling (points_reached c.args.from (moves k (operand_words c.args.run.now))) (points_reached c.fill_whole_steps.new.at (moves k (operand_words c.in_ok-rest.rest.now))) false (λ front. c.fill_whole_steps.new.scratch.items ≡ front) in
+    c.fill_more_steps.ensures.fills _ (filling_even _ _ _ _ (subst Whole c.multi.ensures.value c.in_ok-rest.ensures.ok))

@@ -1,0 +1,43 @@
+use Rattle.nap_draw.proofs.Common.{[], ap, arith, point_at, refl, sym, ◌++◌, ◌∙◌, ◌∷◌}
+use Rattle.nap_draw.proofs.ByteRuns.{moves_turn, three_of_eight}
+use Rattle.nap_draw.proofs.Decoding.{filling_more, filling_none}
+use Rattle.nap_draw.proofs.Turns.{points_turn, cons_if_all_more, cons_if_all_none}
+use Rattle.nap_draw.proofs.scratch.fill_points_of_three.Goals as goal
+
+pub returns-in_default-point-clause-err : goal.returns-in_default-point-clause-err
+returns-in_default-point-clause-err c =
+    let cut = three_of_eight c.loop-block.rest.now c.in-Some.block.now _ (omega (arith, c.in-Some.ensures.cases.2)) c.in-Some.ensures.cases.0 c.split_at.ensures.back in
+    (refl, filling_none _ _ _ _ c.loop-block.invariant.filling (cons_if_all_none _ _ _ (points_turn _ _ _ cut) (sym (c.point.ensures ∙ ap point_at c.multi_first_three.ensures) ∙ c.in_default-point.is)))
+
+pub loop-block-preserved : goal.loop-block-preserved
+loop-block-preserved c =
+    let cut = three_of_eight c.loop-block.rest.now c.in-Some.block.now _ (omega (arith, c.in-Some.ensures.cases.2)) c.in-Some.ensures.cases.0 c.split_at.ensures.back in
+    record {
+      vacant = c.loop-block.invariant.vacant;
+      places = omega (arith, c.loop-block.invariant.places, c.in-Some.ensures.cases.2, c.split_at.ensures.back_len, c.push_reserved.ensures.len, c.push_reserved.ensures.capacity);
+      few = omega (arith, c.loop-block.invariant.few, c.in-Some.ensures.cases.2, c.split_at.ensures.back_len, c.push_reserved.ensures.len);
+      space = omega (arith, c.loop-block.invariant.space, c.push_reserved.ensures.capacity);
+      filling = filling_more _ _ _ c.in-Some-point.point _ _ _ _ c.loop-block.invariant.filling
+          (cons_if_all_more _ _ _ _ (points_turn _ _ _ cut) (sym (c.point.ensures ∙ ap point_at c.multi_first_three.ensures) ∙ c.in-Some-point.is))
+          (λ e. e)
+          (λ front e kept. c.push_reserved.ensures.items ∙ ap (λ l. l ++ c.in-Some-point.point ∷ []) kept);
+    }
+
+pub returns-in_default-point-2-clause-err : goal.returns-in_default-point-2-clause-err
+returns-in_default-point-2-clause-err c =
+    let cut = moves_turn 3 3 c.loop-rest.rest.now _ _ (omega arith) (omega arith) (omega arith) c.split_at-in-loop-rest.ensures.front c.split_at-in-loop-rest.ensures.back in
+    (refl, filling_none _ _ _ _ c.loop-rest.invariant.filling (cons_if_all_none _ _ _ (points_turn _ _ _ cut) (sym (c.point-in-loop-rest.ensures ∙ ap point_at c.multi_bytes.ensures) ∙ c.in_default-point-2.is)))
+
+pub loop-rest-preserved : goal.loop-rest-preserved
+loop-rest-preserved c =
+    let cut = moves_turn 3 3 c.loop-rest.rest.now _ _ (omega arith) (omega arith) (omega arith) c.split_at-in-loop-rest.ensures.front c.split_at-in-loop-rest.ensures.back in
+    record {
+      vacant = c.loop-rest.invariant.vacant;
+      places = omega (arith, c.loop-rest.invariant.places, c.split_at-in-loop-rest.ensures.back_len, c.push_reserved-in-loop-rest.ensures.len, c.push_reserved-in-loop-rest.ensures.capacity);
+      few = omega (arith, c.loop-rest.invariant.few, c.split_at-in-loop-rest.ensures.back_len, c.push_reserved-in-loop-rest.ensures.len);
+      space = omega (arith, c.loop-rest.invariant.space, c.push_reserved-in-loop-rest.ensures.capacity);
+      filling = filling_more _ _ _ c.in-Some-point-2.point _ _ _ _ c.loop-rest.invariant.filling
+          (cons_if_all_more _ _ _ _ (points_turn _ _ _ cut) (sym (c.point-in-loop-rest.ensures ∙ ap point_at c.multi_bytes.ensures) ∙ c.in-Some-point-2.is))
+          (λ e. e)
+          (λ front e kept. c.push_reserved-in-loop-rest.ensures.items ∙ ap (λ l. l ++ c.in-Some-point-2.point ∷ []) kept);
+    }

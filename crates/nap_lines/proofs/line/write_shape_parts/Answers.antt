@@ -1,0 +1,27 @@
+use Rattle.nap_lines.proofs.Common.{AppendsText, List, [], entry_of_shape, line, subst, ℕ, ◌++◌, ◌∷◌}
+use Rattle.nap_lines.proofs.ShapeLemmas.{appends_more, both_appended, drawn_line, text_kept}
+use Rattle.nap_lines.proofs.line.write_shape_parts.Goals as goal
+
+pub returns-in_err-write_points-clause-appends : goal.returns-in_err-write_points-clause-appends
+returns-in_err-write_points-clause-appends c =
+    text_kept c.args.text.now.items c.write_shape_name.new.text.items c.write_points.new.text.items _ (line (entry_of_shape c.args.shape.now) ++ 10 ∷ []) c.from_residual-in_err-write_points.result c.in_ok-write_shape_name.ensures.appends.0 c.in_err-write_points.ensures.appends c.from_residual-in_err-write_points.ensures.0
+
+pub returns-in_err-write_points-2-clause-appends : goal.returns-in_err-write_points-2-clause-appends
+returns-in_err-write_points-2-clause-appends c =
+    let from = both_appended _ _ _ _ _ c.in_ok-write_shape_name.ensures.appends c.in_ok-write_points.ensures.appends in
+    text_kept c.args.text.now.items c.write_points.new.text.items c.write_points-2.new.text.items _ (line (entry_of_shape c.args.shape.now) ++ 10 ∷ []) c.from_residual-in_err-write_points-2.result from.0 c.in_err-write_points-2.ensures.appends c.from_residual-in_err-write_points-2.ensures.0
+
+pub returns-in_err-write_closing-clause-appends : goal.returns-in_err-write_closing-clause-appends
+returns-in_err-write_closing-clause-appends c =
+    let from = both_appended _ _ _ _ _ c.in_ok-write_shape_name.ensures.appends c.in_ok-write_points.ensures.appends in
+    let others = both_appended _ _ _ _ _ from c.in_ok-write_points-2.ensures.appends in
+    text_kept c.args.text.now.items c.write_points-2.new.text.items c.write_closing.new.text.items _ (line (entry_of_shape c.args.shape.now) ++ 10 ∷ []) c.from_residual-in_err-write_closing.result others.0 c.in_err-write_closing.ensures.appends c.from_residual-in_err-write_closing.ensures.0
+
+pub returns-clause-appends : goal.returns-clause-appends
+returns-clause-appends c =
+    let name = rw c.shape_name.ensures.bytes at c.in_ok-write_shape_name.ensures.appends in
+    let from = both_appended _ _ _ _ _ name c.in_ok-write_points.ensures.appends in
+    let others = both_appended _ _ _ _ _ from c.in_ok-write_points-2.ensures.appends in
+    let closing = both_appended _ _ _ _ _ others c.in_ok-write_closing.ensures.appends in
+    let ink = rw c.ink.ensures at c.write_ink.ensures.appends in
+    subst (λ (bytes : List ℕ). AppendsText c.args.text.now.items bytes c.write_ink.new.text.items c.write_ink.result) (drawn_line c.args.shape.now) (appends_more _ _ _ _ _ c.write_ink.result closing ink)

@@ -1,5 +1,0 @@
-use Rattle.nap_make.proofs.RowLemmas.{HasRead}
-use Rattle.nap_make.proofs.row.read_row.Given as goal
-
-abbrev pub invariant-loop-sort : goal.invariant-loop-sort
-invariant-loop-sort l = HasRead l.row.front.now l.sort-index l.bytes l.values.items l.rest

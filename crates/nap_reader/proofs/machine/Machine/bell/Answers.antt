@@ -1,0 +1,11 @@
+use Rattle.nap_reader.proofs.{alone_acts, alone_stops, arith, lexes_alone, refl}
+use Rattle.nap_reader.proofs.machine.Machine.bell.Goals as goal
+
+pub returns-in-Ok : goal.returns-in-Ok
+returns-in-Ok g c = λ ended following.
+    let acted = c.in-Ok.ensures.acts in
+    alone_acts refl (lexes_alone c.requires.closed c.requires.rested c.requires.is) (grind arith) refl {entries = acted.0} (grind arith) (grind arith) g.met.S.Sink.took_more g.met.S.Sink.wants_more
+
+pub returns-in-Err : goal.returns-in-Err
+returns-in-Err g c = λ ended following.
+    rw c.from.ensures (alone_stops refl (lexes_alone c.requires.closed c.requires.rested c.requires.is) {fault = c.in-Err.fault} refl refl (grind arith) (grind arith))

@@ -1,0 +1,95 @@
+use Rattle.nap_reader.proofs.{kept_as, Define, Nothing, acting, arith, begins_after_escape, call_found, defining, found_acts, found_call, found_defines, found_nothing, found_stops, front_made, left_rested, nothing_found, refl}
+use Rattle.nap_reader.proofs.Common.{Code, front, ◌-◌, ◌∷◌}
+use Rattle.nap_reader.proofs.WholeCodeLemmas.{Drawing}
+use Rattle.nap_reader.proofs.machine.Machine.rest_of_escape.Goals as goal
+use Rattle.nap_reader.proofs.machine.Machine.rest_of_escape.Goals.{In-Acts, In-Defines}
+
+pub overflow_sub-result : goal.overflow_sub-result
+overflow_sub-result g c =
+    let (adding, found, kind) = nothing_found c.args.self.now.lexer.sets (front c.args.self.now.lexer.sets (27 ∷ c.args.bytes.now)) c.in-Nothing.count c.in-Nothing.ensures.2.0 in
+    omega (arith, (begins_after_escape {old = c.args.self.now} c.requires.closed c.in-Nothing.ensures.0 found).some)
+
+pub overflow_sub-result-in-Calls : goal.overflow_sub-result-in-Calls
+overflow_sub-result-in-Calls g c =
+    let found = call_found c.args.self.now.lexer.sets (front c.args.self.now.lexer.sets (27 ∷ c.args.bytes.now)) c.in-Calls.count c.in-Calls.name c.in-Calls.ensures.2.0 in
+    omega (arith, (begins_after_escape {old = c.args.self.now} c.requires.closed c.in-Calls.ensures.0 found).some)
+
+pub returns-in-Nothing : goal.returns-in-Nothing
+returns-in-Nothing g c = λ ended.
+    let (adding, found, kind) = nothing_found c.args.self.now.lexer.sets (front c.args.self.now.lexer.sets (27 ∷ c.args.bytes.now)) c.in-Nothing.count c.in-Nothing.ensures.2.0 in
+    found_nothing (begins_after_escape c.requires.closed c.in-Nothing.ensures.0 found)
+    (record { before = c.requires.closed; closed = c.requires.closed; work_is = refl; lexer_is = left_rested _ c.args.self.now.lexer.sets c.next_after_escape.new.self c.in-Nothing.ensures.1 c.in-Nothing.ensures.2; kept = kept_as refl refl }) refl kind c.requires.live
+
+pub returns-in-Calls : goal.returns-in-Calls
+returns-in-Calls g c = λ ended.
+    let found = call_found c.args.self.now.lexer.sets (front c.args.self.now.lexer.sets (27 ∷ c.args.bytes.now)) c.in-Calls.count c.in-Calls.name c.in-Calls.ensures.2.0 in
+    found_call (begins_after_escape c.requires.closed c.in-Calls.ensures.0 found)
+    (record { before = c.requires.closed; closed = c.requires.closed; work_is = refl; lexer_is = left_rested _ c.args.self.now.lexer.sets c.next_after_escape.new.self c.in-Calls.ensures.1 c.in-Calls.ensures.2; kept = kept_as refl refl }) refl refl c.requires.live
+
+-- A code that acts was found.
+acts : (g : _) (c : In-Acts g) → Drawing c.args.self.now c.next_after_escape.new.self c.args.bytes.now (c.in-Acts.count - 1) c.in-Acts.code Nothing
+acts g c = acting _ _ (begins_after_escape c.requires.closed c.in-Acts.ensures.0) c.in-Acts.ensures.1 c.in-Acts.ensures.2
+
+pub control-requires-clause-made : goal.control-requires-clause-made
+control-requires-clause-made g c =
+    let drawn = acts g (goal.at.control-requires-clause-made g c).In-Acts in
+    front_made _ _ c.in-Acts.code _ _ drawn.ends.whole
+
+pub overflow_sub-result-in-Ok : goal.overflow_sub-result-in-Ok
+overflow_sub-result-in-Ok g c =
+    let drawn = acts g (goal.at.overflow_sub-result-in-Ok g c).In-Acts in
+    omega (arith, drawn.ends.some)
+
+pub overflow_sub-result-in-Err : goal.overflow_sub-result-in-Err
+overflow_sub-result-in-Err g c =
+    let drawn = acts g (goal.at.overflow_sub-result-in-Err g c).In-Acts in
+    omega (arith, drawn.ends.some)
+
+pub overflow_sub-result-in-Err-2 : goal.overflow_sub-result-in-Err-2
+overflow_sub-result-in-Err-2 g c =
+    let drawn = acts g (goal.at.overflow_sub-result-in-Err-2 g c).In-Acts in
+    omega (arith, drawn.ends.some)
+
+pub returns-in-Ok : goal.returns-in-Ok
+returns-in-Ok g c = λ ended.
+    let drawn = acts g (goal.at.returns-in-Ok g c).In-Acts in
+    let acted = c.in-Ok.ensures.acts in
+    found_acts drawn.ends {entries = acted.0} (record { before = c.requires.closed; closed = c.requires.closed; work_is = refl; lexer_is = drawn.left; kept = kept_as refl refl }) drawn.ruled (grind arith) (grind arith) g.met.S.Sink.took_more g.met.S.Sink.wants_more
+
+pub returns-in-Err : goal.returns-in-Err
+returns-in-Err g c = λ ended.
+    let drawn = acts g (goal.at.returns-in-Err g c).In-Acts in
+    rw c.from.ensures (found_stops drawn.ends {fault = c.in-Err.fault} (omega arith) refl drawn.ruled (grind arith) (grind arith))
+
+-- A definition was found.
+defines : (g : _) (c : In-Defines g) → Drawing c.args.self.now c.next_after_escape.new.self c.args.bytes.now (c.in-Defines.count - 1) (Code.DefMacro c.in-Defines.name c.in-Defines.show) (Define c.in-Defines.name c.in-Defines.show)
+defines g c = defining _ _ (begins_after_escape c.requires.closed c.in-Defines.ensures.0) c.in-Defines.ensures.1 c.in-Defines.ensures.2
+
+pub overflow_sub-result-in-Ok-control : goal.overflow_sub-result-in-Ok-control
+overflow_sub-result-in-Ok-control g c =
+    let drawn = defines g (goal.at.overflow_sub-result-in-Ok-control g c).In-Defines in
+    omega (arith, drawn.ends.some)
+
+pub overflow_sub-result-in-Err-control : goal.overflow_sub-result-in-Err-control
+overflow_sub-result-in-Err-control g c =
+    let drawn = defines g (goal.at.overflow_sub-result-in-Err-control g c).In-Defines in
+    omega (arith, drawn.ends.some)
+
+pub overflow_sub-result-in-Err-control-2 : goal.overflow_sub-result-in-Err-control-2
+overflow_sub-result-in-Err-control-2 g c =
+    let drawn = defines g (goal.at.overflow_sub-result-in-Err-control-2 g c).In-Defines in
+    omega (arith, drawn.ends.some)
+
+pub returns-in-Ok-control : goal.returns-in-Ok-control
+returns-in-Ok-control g c = λ ended.
+    let drawn = defines g (goal.at.returns-in-Ok-control g c).In-Defines in
+    let acted = c.in-Ok-control.ensures.acts in
+    found_defines drawn.ends {entries = acted.0} (record { before = c.requires.closed; closed = c.requires.closed; work_is = refl; lexer_is = drawn.left; kept = kept_as refl refl }) drawn.ruled (grind arith) (grind arith) g.met.S.Sink.took_more g.met.S.Sink.wants_more
+
+pub returns-in-Err-control : goal.returns-in-Err-control
+returns-in-Err-control g c = λ ended.
+    let drawn = defines g (goal.at.returns-in-Err-control g c).In-Defines in
+    rw c.from-in-Err-control.ensures (found_stops drawn.ends {fault = c.in-Err-control.fault} (omega arith) refl drawn.ruled (grind arith) (grind arith))
+
+pub returns-in-Other : goal.returns-in-Other
+returns-in-Other g c = λ ended. record { within = record { kept = kept_as refl refl; work = refl; lexer = c.in-Other.ensures; sink = refl; refusal = refl }; closed = refl; by = λ x ys is. tt }

@@ -1,6 +1,0 @@
-use Rattle.nap_values.proofs.Common.{arith}
-use Rattle.nap_values.proofs.PartLemmas.{spreads}
-use Rattle.nap_values.proofs.packed_colours.spread_digits.Goals as goal
-
-pub returns-clause-value : goal.returns-clause-value
-returns-clause-value c = rw c.from-n.ensures (spreads c.args.n (omega arith))

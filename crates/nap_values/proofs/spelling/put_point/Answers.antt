@@ -1,9 +1,0 @@
-use Rattle.nap_values.proofs.Common.{ap, operand_bytes, point_bytes, ◌∙◌}
-use Rattle.nap_values.proofs.ByteLemmas.{words_of_point}
-use Rattle.nap_values.proofs.spelling.put_point.Goals as goal
-
-pub returns-clause-bytes : goal.returns-clause-bytes
-unfolding point_bytes
-returns-clause-bytes c =
-    c.put_words.ensures
-    ∙ ap operand_bytes (words_of_point c.words.result c.words.ensures.words _ _ c.words.ensures.x c.words.ensures.y)

@@ -1,6 +1,0 @@
-use Rattle.nap_values.proofs.Common.{ap, colour_of, ◌∙◌}
-use Rattle.nap_values.proofs.PaddedLemmas.{colour_of-padded}
-use Rattle.nap_values.proofs.word_operands.colour.Goals as goal
-
-pub returns : goal.returns
-returns c = c.colour_bytes.ensures ∙ ap colour_of c.padded_bytes.ensures ∙ colour_of-padded c.args.run.now

@@ -1,6 +1,0 @@
-use Rattle.nap_values.proofs.Common.{ap, multi_of, ◌∙◌}
-use Rattle.nap_values.proofs.PaddedLemmas.{multi_of-padded}
-use Rattle.nap_values.proofs.word_operands.multi.Goals as goal
-
-pub returns : goal.returns
-returns c = c.multi_bytes.ensures ∙ ap multi_of c.padded_bytes.ensures ∙ multi_of-padded c.args.run.now
