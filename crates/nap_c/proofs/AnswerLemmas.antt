@@ -1,9 +1,6 @@
-use Rattle.nap_c.proofs.Common.{Answer, AnswersInBudget, Bool, CountSink, CountsInBudget, Entry, Err, Fault, Ghosts, IsGiven, IsPlaced, IsRefusal, IsTextOf, LacksForText, LacksToCount, LacksWithin, List, Made, MatchResult, Offers, Ok, Refusal, Result, Uncounted, [], accepted_answer, ap, ap₂, arith, ended_answer, false, inl, inr, length, length-append, list_of, means, places, refl, refused_answer, subst, sym, text, ℕ, ◌^◌, ◌∙◌, ◌≡◌, ◌≢◌, ◌≤◌, ◌⊎◌}
+use Rattle.nap_c.proofs.Common.{Answer, AnswersInBudget, AnswersMaking, Bool, CountSink, CountsInBudget, Entry, Err, Fault, Ghosts, IsGiven, IsPlaced, IsRefusal, IsTextOf, LacksForText, LacksToCount, LacksWithin, List, Made, MatchResult, Offers, Ok, Refusal, Result, Uncounted, [], accepted_answer, ap, ap₂, arith, ended_answer, false, inl, inr, length, length-append, means, offered_answer, places, refl, refused_answer, subst, sym, text, ℕ, ◌^◌, ◌∙◌, ◌≡◌, ◌≤◌, ◌⊎◌}
 use Rattle.nap_command.proofs.PublicLaws.{is_memory}
 use Rattle.std.proofs.lemmas.Bool.{false≢true}
-use Rattle.nap_c.specs.Answers.{AnswersMaking, offered_answer}
-use Rattle.nap_canon.specs.PageTexts.{IsPageText}
-use Rattle.nap_canon.specs.declared.text.PageText.{PageText}
 use Rattle.nap_make.specs.Texts.{IsPageMade}
 use Rattle.nap_make.specs.declared.page.MadePage.{MadePage}
 use Rattle.nap_reader.specs.Collecting.{IsRead, LacksMemoryFor}
@@ -83,14 +80,6 @@ module _ (g : Ghosts CountSink) (s : CountSink) (none : s.count ≡ 0) (wants_is
   refused_to_count Fault.Memory place h = record { refused = λ no. absurd (no refl); memory = λ _. record { breaks = h.collects.0; own = own place h.collects.1 } }
   refused_to_count Fault.Sink place h = let (breaks, (t, failed, took)) = h.collects in absurd (false≢true (sym (sound t) ∙ failed))
   refused_to_count f place h = record { refused = λ _. h.collects; memory = λ is. let bad : ⊥ = cc in absurd bad }
-
--- the canonical text of a page was made, or refused
-pub text_made : {V : Type 0} (items : V → List ℕ) (budget : ℕ) (p : List ℕ) (found : Result PageText Refusal) (result : Result V Refusal) → IsPageText budget p found →
-    MatchResult found (λ t. MatchResult result (λ made. items made ≡ t.text.items) (λ r. ⊥)) (λ r. result ≡ Err r) →
-    MatchResult result (λ made. IsTextOf budget p (text (list_of budget p)) (items made)) (IsRefusal budget p (LacksForText budget p))
-text_made items budget p (Ok t) (Ok made) h is = record { accepted = h.0.accepted; text_is = is ∙ h.0.text_is }
-text_made items budget p (Ok t) (Err r) h is = absurd is
-text_made items budget p (Err r) result h is = rw is (record { refused = h.refused; memory = λ wants. inl (h.memory wants) })
 
 -- The page that lines make was copied to a room, or the room is too small for it.
 

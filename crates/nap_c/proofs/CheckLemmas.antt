@@ -1,10 +1,7 @@
-use Rattle.nap_c.proofs.Common.{Answers, AnswersBy, BreaksInRun, CountSink, Entry, Err, Fault, Ghosts, HasRead, IsBroken, IsRefusal, IsTaken, LacksToCount, List, None, Ok, Option, Outcome, Refusal, Result, Some, StopsBy, Uncounted, [], ap, append-nil, arith, begun, begun_comes_first, budget_of, cause_of, end_breaks_among, fed_breaks_among, get_or, inl, inr, left_of, length, length-append, means, refl, refusal_of, sink_of, subst, sym, take, uncounted, ℕ, ◌++◌, ◌<◌, ◌^◌, ◌∙◌, ◌≡◌, ◌≢◌, ◌≤◌, ◌⊎◌}
+use Rattle.nap_c.proofs.Common.{Answers, AnswersBy, BreaksAmong, BreaksInRun, Cause, CountSink, Entry, Err, Fault, Ghosts, HasRead, IsBroken, IsRefusal, IsTaken, LacksToCount, List, None, Ok, Option, Outcome, Reader, Refusal, Result, Some, StopsBy, Uncounted, WantsSome, [], ap, append-nil, arith, begun, begun_comes_first, budget_of, cause_of, device, end_breaks_among, fed_breaks_among, get_or, inl, inr, left_of, length, length-append, means, memory, refl, refusal_of, sink_of, stream, subst, sym, take, uncounted, ℕ, ◌++◌, ◌<◌, ◌^◌, ◌∙◌, ◌≡◌, ◌≢◌, ◌≤◌, ◌⊎◌}
 use Rattle.nap_command.proofs.PublicLaws.{still_refused}
 use Rattle.std.proofs.lemmas.List.{take-append-le, get_or_append_left}
-use Rattle.nap_draw.specs.Draws.{Cause, stream, memory, device}
-use Rattle.nap_reader.specs.declared.reader.Reader.{Reader}
 use Rattle.nap_reader.specs.declared.reader.Stopped.{Stopped}
-use Rattle.nap_reader.specs.Laws.{BreaksAmong, WantsSome}
 
 pub device_fault : (f : Fault) → cause_of f ≡ device → f ≡ Fault.Sink
 device_fault f is = grind arith

@@ -1,13 +1,10 @@
 -- The machine value of a `Checking`, taken apart and put together.
-use Rattle.nap_c.proofs.Common.{Goal, Item, List, Logic, None, Ptr, RawPtr, Seq, Some, Step, T, Testable, Ura, Val, Valss, WT, [], block_ptr, drop, ent, feq_i, feq_l, fjoin, fpack, fpick, fsplit, given, guard, guard_i, has_ty, learn, lies_at, lit<, lone, nothing, null_ptr, of_list, ptr_val, refl, sem, shape, snd∗, step, subst, ty_ptr, use1, vcons, via, vnil, vstruct, within, ‵, ℕ, ◌$◌, ◌++◌, ◌∷◌, ◌≡◌}
+use Rattle.nap_c.proofs.Common.{Goal, Item, List, Logic, None, Ptr, RawPtr, Seq, Some, Step, T, Testable, Ura, Val, Valss, WT, [], block_ptr, drop, ent, fact_use, feq_i, feq_l, fjoin, fpack, fpick, fsep, fsplit, ftrue, ghosts, given, guard, guard_i, has_ty, learn, lies_at, lit<, lone, nothing, null_ptr, of_list, ptr_val, refl, sem, shape, snd∗, step, subst, ty_ptr, use1, vcons, via, vnil, vstruct, within, ‵, ℕ, ◌$◌, ◌++◌, ◌∷◌, ◌≡◌}
 use mir.Raw.{raw as bare}
 use base.Fraction.{full_share}
-use base.Fml.{ftrue, fsep}
-use contract.Monad.{fact_use}
 use Rattle.std.proofs.GlobalToken.{dealloc_token-Testable}
 use Rattle.std.specs.declared.alloc.Global.{Global}
 use Rattle.std.specs.declared.option.Option.{Option}
-use Rattle.std.specs.contracts.impls.GlobalAllocator.TheImpl.{ghosts}
 use Rattle.nap_c.specs.contracts.pieces.Check as check
 use Rattle.nap_c.specs.contracts.checking.Checking as checking
 use Rattle.nap_c.specs.Kept.{box_at, page_at, as_formula}

@@ -1,9 +1,8 @@
 -- The library and `batch` answer alike.
 
-use Rattle.nap_c.proofs.Common.{Answer, AnswersCall, AnswersCount, AnswersNoBudget, AnswersPage, IsAccepted, List, None, Offers, Refusal, Some, accepted_answer, accepted_body_of, arith, inl, inr, length, means, refused_answer, refused_body_of, subst, sym, ℕ, ◌∙◌, ◌≡◌, ◌≤◌}
+use Rattle.nap_c.proofs.Common.{AgreeOnCount, AgreeOnText, Answer, AnswersCall, AnswersCount, AnswersNoBudget, AnswersPage, IsAccepted, LibraryAnswersAsBatch, List, None, Offers, Refusal, Some, accepted_answer, accepted_body_of, arith, inl, inr, length, means, refused_answer, refused_body_of, subst, sym, ℕ, ◌∙◌, ◌≡◌, ◌≤◌}
 use Rattle.nap_reader.specs.Budgets.{most_budget}
 use Rattle.nap_command.specs.declared.batch.request.Question.{Question}
-use Rattle.nap_c.specs.Answers.{AgreeOnCount, AgreeOnText, LibraryAnswersAsBatch}
 
 module _ (budget : ℕ) (p : List ℕ) where
   -- no page is both accepted and refused

@@ -2,6 +2,5 @@ mod Common
 mod AnswerLemmas
 mod CheckLemmas
 mod KeptLemmas
-mod LawLemmas
+pub mod LawLemmas
 mod LooseLemmas
-mod WalkNames

@@ -1,12 +1,8 @@
 -- The machine value of a `RawBox`, taken apart and put together.
-use Rattle.nap_c.proofs.Common.{Goal, Item, List, Logic, Ptr, RattleType, RawPtr, Seq, Step, T, Ura, Val, Valss, WT, [], block_ptr, dnil, drop, feq_i, feq_l, fjoin, fpack, fpick, fsplit, fst∗, has_ty, impl, in_a_block, lone, move, never, nothing, null_ptr, of_list, ptr_val, refl, sem, shape, step, subst, tnil, vcons, vnil, vptr, vstruct, within, ‵, ℕ, ◌$◌, ◌++◌, ◌∷◌, ◌≡◌}
+use Rattle.nap_c.proofs.Common.{Al, Goal, Good, Item, Laws, List, Logic, Ptr, RattleType, RawPtr, Seq, Step, T, Ura, Val, Valss, WT, [], block_ptr, dnil, drop, feq_i, feq_l, fjoin, fpack, fpick, fsplit, fst∗, handle_tells, has_ty, impl, in_a_block, layout, lone, move, never, nothing, null_ptr, of_list, ptr_val, refl, sem, shape, step, subst, tnil, vcons, vnil, vptr, vstruct, within, ‵, ℕ, ◌$◌, ◌++◌, ◌∷◌, ◌≡◌}
 use mathlib.Core.Bool.{true, ◌&&◌}
 use mir.Raw.{raw as bare}
-use denote.Param.{layout}
-use denote.Param.Laws.{Laws}
 use Rattle.std.specs.declared.alloc.Allocator.{Ghosts}
-use Rattle.std.proofs.alloc.Calls.{Al, handle_tells}
-use Rattle.std.proofs.cell.Inside.{Good}
 use Rattle.std.specs.Box.Ownership.{box_owns}
 use Rattle.std.proofs.ResultValues.{and_tt}
 use Rattle.nap_c.specs.contracts.checking.RawBox as loose

@@ -1,9 +1,6 @@
 use Rattle.std.specs.Prelude.{Bool, Err, List, Ok, Result, Some, [], drop, false, length, true, ℕ, ◌++◌, ◌-◌, ◌<◌, ◌^◌, ◌≡◌, ◌≢◌, ◌≤◌, ◌⊎◌}
 use lib.ListN.{replicate}
-use Rattle.nap_reader.specs.declared.fault.Fault.{Fault}
-use Rattle.nap_reader.specs.declared.fault.Refusal.{Refusal}
-use Rattle.nap_reader.specs.Breaking.{BreaksWithin, LacksWithin}
-use Rattle.nap_reader.specs.Stream.{means, refusal}
+use Rattle.nap_canon.specs.Names.{BreaksWithin, Fault, LacksWithin, Refusal, means, refusal}
 use Rattle.nap_canon.specs.Streams.{IsAccepted, list_of}
 use Rattle.nap_reader.specs.Budgets.{most_budget}
 use Rattle.nap_reader.specs.Faults.{number_of}
@@ -66,11 +63,11 @@ small_room_answer a = record a { status = 2 }
 
 -- the answer for a budget that there isn't
 abbrev pub no_budget_answer : Answer
-no_budget_answer = record { status = 3; number = 0; place = 0; length = 0; name = zero_padded [] }
+no_budget_answer = record (accepted_answer 0) { status = 3 }
 
 -- the answer for a call without a begun page
 abbrev pub not_begun_answer : Answer
-not_begun_answer = record { status = 4; number = 0; place = 0; length = 0; name = zero_padded [] }
+not_begun_answer = record (accepted_answer 0) { status = 4 }
 
 -- the answer for a page that was read with this result, with a text of this length
 abbrev pub ended_answer : Result ℕ Refusal → ℕ → Answer
@@ -184,8 +181,7 @@ abbrev pub answer_of_fault : MakeFault → Made
 answer_of_fault (MakeFault.Line line column) = unmade_answer 1 line column 0
 answer_of_fault (MakeFault.Misfit line) = unmade_answer 2 line 0 0
 answer_of_fault (MakeFault.Open line opening) = unmade_answer 3 line 0 opening
-answer_of_fault MakeFault.Memory = unmade_answer 4 0 0 0
-answer_of_fault MakeFault.Write = unmade_answer 4 0 0 0
+answer_of_fault _ = unmade_answer 4 0 0 0
 
 -- The lines make a page, which was copied to the beginning of the room if it has as many bytes.
 pub record AnswersMade (p old new : List ℕ) (answer : Made) : Type 0 where

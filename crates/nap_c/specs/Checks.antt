@@ -1,10 +1,7 @@
 use Rattle.std.specs.Prelude.{List, None, Option, Some, [], ℕ, ◌++◌, ◌≡◌, ◌≢◌, ◌≤◌, ◌⊎◌}
 use Rattle.nap_list.specs.declared.count_sink.CountSink.{CountSink}
-use Rattle.nap_list.specs.State.{start}
-use Rattle.nap_reader.specs.declared.fault.Fault.{Fault}
-use Rattle.nap_reader.specs.declared.fault.Refusal.{Refusal}
+use Rattle.nap_canon.specs.Names.{Fault, Refusal, begun, start}
 use Rattle.nap_reader.specs.ReaderAnswers.{HasRead, budget_of, fed_of, refusal_of}
-use Rattle.nap_reader.specs.Stream.{begun}
 use Rattle.nap_reader.specs.Budgets.{most_budget}
 use Rattle.nap_c.specs.declared.answer.Answer.{Answer}
 use Rattle.nap_c.specs.declared.pieces.Check.{Check}

@@ -1,6 +1,6 @@
 //! Answers of the library for C (docs/LIBRARY.md).
 ghost use Rattle.std.specs.Prelude.{◌≡◌, length, MatchResult};
-ghost use Rattle.nap_c.specs.Answers.{IsGiven, Offers, accepted_answer, ended_answer, no_budget_answer, not_begun_answer, refused_answer, zero_padded};
+ghost use Rattle.nap_c.specs.Answers.{IsGiven, Offers, accepted_answer, ended_answer, refused_answer, zero_padded};
 ghost use Rattle.nap_command.specs.Failures.{fault_text};
 
 use nap_command::batch::PlacesText;
@@ -30,10 +30,10 @@ pub(crate) const REFUSED: u32 = 1;
 pub(crate) const SMALL: u32 = 2;
 
 /// Status: there is no such budget.
-const NO_BUDGET: u32 = 3;
+pub(crate) const NO_BUDGET: u32 = 3;
 
 /// Status: no page is begun.
-const NOT_BEGUN: u32 = 4;
+pub(crate) const NOT_BEGUN: u32 = 4;
 
 /// The answer to a call on a page, as C sees it.
 #[repr(C)]
@@ -88,22 +88,12 @@ impl Answer {
         }
     }
 
-    /// Returns the answer for a budget that there isn't.
-    pub(crate) fn no_budget_answer() -> Answer
-        ensures { result ≡ no_budget_answer }
+    /// Returns the answer with this status alone.
+    pub(crate) fn bare_answer(status: u32) -> Answer
+        ensures { result ≡ record (accepted_answer 0) { status = status } }
     {
         Answer {
-            status: NO_BUDGET,
-            ..Answer::accepted_answer(0)
-        }
-    }
-
-    /// Returns the answer for a call without a begun page.
-    pub(crate) fn not_begun_answer() -> Answer
-        ensures { result ≡ not_begun_answer }
-    {
-        Answer {
-            status: NOT_BEGUN,
+            status,
             ..Answer::accepted_answer(0)
         }
     }

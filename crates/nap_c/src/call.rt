@@ -1,5 +1,5 @@
 //! The calls of the library on a page in memory (docs/LIBRARY.md).
-ghost use Rattle.std.specs.Prelude.{◌≡◌, ◌↔◌, IsTrue, Err, MatchResult};
+ghost use Rattle.std.specs.Prelude.{◌≡◌, ◌↔◌, IsTrue, MatchResult};
 ghost use Rattle.nap_reader.specs.Breaking.{BreaksWithin};
 ghost use Rattle.nap_canon.specs.Plain.{IsPlain};
 ghost use Rattle.nap_canon.specs.Streams.{list_of};
@@ -7,8 +7,8 @@ ghost use Rattle.nap_canon.specs.Text.{text, text1};
 ghost use Rattle.nap_lines.specs.Listing.{lines};
 ghost use Rattle.nap_c.specs.Answers.{AnswersCount, AnswersPlaces, AnswersText, IsRefusal, IsTextOf, LacksForText, memory_refusal_at_end};
 
-use crate::answer::{Answer, answer_placed, answer_text};
-use nap_canon::{CanonFault, PageText, canon_form1, page_text};
+use crate::answer::{Answer, NO_BUDGET, answer_placed, answer_text};
+use nap_canon::{CanonFault, canon_form1, page_text};
 use nap_command::batch::read_places;
 use nap_lines::LineSink;
 use nap_list::CountSink;
@@ -35,16 +35,6 @@ pub(crate) fn list_text(alloc: Global, budget: Budget, page: &[u8]) -> Result<Ve
     Ok(sink.into_text())
 }
 
-/// Returns the text that was made of a page, or its refusal.
-fn text_of_page(found: Result<PageText, Refusal>) -> Result<Vec<u8>, Refusal>
-    ensures { MatchResult found (λ t. MatchResult result (λ text. text.items ≡ t.text.items) (λ r. ⊥)) (λ r. result ≡ Err r) }
-{
-    match found {
-        Ok(found) => Ok(found.text),
-        Err(refusal) => Err(refusal),
-    }
-}
-
 /// Returns the canonical text of a page, or its refusal.
 pub(crate) fn canon_text(alloc: Global, budget: Budget, page: &[u8]) -> Result<Vec<u8>, Refusal>
     ensures { MatchResult result
@@ -52,7 +42,8 @@ pub(crate) fn canon_text(alloc: Global, budget: Budget, page: &[u8]) -> Result<V
         (IsRefusal budget page.now (LacksForText budget page.now)) }
 {
     match page_text(alloc, budget, page) {
-        Ok(found) => text_of_page(found),
+        Ok(Ok(found)) => Ok(found.text),
+        Ok(Err(refusal)) => Err(refusal),
         Err(AllocError) => Err(memory_refusal_at_end(page)),
     }
 }
@@ -78,7 +69,7 @@ pub extern "C" fn naplps_check(alloc: Global, budget: u32, page: &[u8]) -> Answe
     ensures { AnswersCount budget page.now result }
 {
     let Some(budget) = Budget::new(budget) else {
-        return Answer::no_budget_answer();
+        return Answer::bare_answer(NO_BUDGET);
     };
     match read_stream(alloc, budget, page, CountSink::new()) {
         Ok(sink) => Answer::accepted_answer(sink.count()),
@@ -93,7 +84,7 @@ pub extern "C" fn naplps_list(alloc: Global, budget: u32, page: &[u8], room: &mu
         AnswersText budget page.now (BreaksWithin budget page.now) accepted room.old room.new result }
 {
     let Some(budget) = Budget::new(budget) else {
-        return Answer::no_budget_answer();
+        return Answer::bare_answer(NO_BUDGET);
     };
     answer_text(list_text(alloc, budget, page), room)
 }
@@ -105,7 +96,7 @@ pub extern "C" fn naplps_canon(alloc: Global, budget: u32, page: &[u8], room: &m
         AnswersText budget page.now (LacksForText budget page.now) accepted room.old room.new result }
 {
     let Some(budget) = Budget::new(budget) else {
-        return Answer::no_budget_answer();
+        return Answer::bare_answer(NO_BUDGET);
     };
     answer_text(canon_text(alloc, budget, page), room)
 }
@@ -122,7 +113,7 @@ pub extern "C" fn naplps_canon_form1(
         AnswersText budget page.now (LacksForText budget page.now) accepted room.old room.new result }
 {
     let Some(budget) = Budget::new(budget) else {
-        return Answer::no_budget_answer();
+        return Answer::bare_answer(NO_BUDGET);
     };
     answer_text(form1_text(alloc, budget, page), room)
 }
@@ -134,7 +125,7 @@ pub extern "C" fn naplps_places(alloc: Global, budget: u32, page: &[u8], room: &
     ensures { AnswersPlaces budget page.now room.old room.new result }
 {
     let Some(budget) = Budget::new(budget) else {
-        return Answer::no_budget_answer();
+        return Answer::bare_answer(NO_BUDGET);
     };
     match read_places(alloc, budget, page) {
         Ok(placed) => answer_placed(placed, room),

@@ -3,6 +3,7 @@ ghost use Rattle.nap_c.specs.Answers.{LibraryAnswersAsBatch};
 
 /// The calls of the library and `batch` give the same lines, texts and places of a page, or the same refusal, unless
 /// memory runs out for one of them.
+#[tactic(auto, using(crate::proofs::LawLemmas::library_answers_as_batch))]
 pub fn library_answers_as_batch()
     ensures { LibraryAnswersAsBatch }
 {}

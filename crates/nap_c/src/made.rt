@@ -84,8 +84,7 @@ impl Made {
                 0,
                 opening as u64,
             ),
-            MakeFault::Memory => Made::unmade_answer(NO_MEMORY, 0, 0, 0),
-            MakeFault::Write => Made::unmade_answer(NO_MEMORY, 0, 0, 0),
+            _ => Made::unmade_answer(NO_MEMORY, 0, 0, 0),
         }
     }
 }

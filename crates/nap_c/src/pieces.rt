@@ -2,10 +2,11 @@
 ghost use Rattle.std.specs.Prelude.{◌≡◌, ◌+◌, ◌<◌, ◌^◌, None, IfSome, length, ◌++◌, ℕ, List, []};
 ghost use Rattle.nap_c.specs.Checks.{BeginsPage, FeedsPiece, FinishesPage, fed};
 
-use crate::answer::Answer;
+use crate::answer::{Answer, NO_BUDGET, NOT_BEGUN};
+use crate::call::memory_refusal_at_end;
 use crate::checking::Checking;
 use nap_list::CountSink;
-use nap_reader::{Budget, Fault, Reader, Refusal};
+use nap_reader::{Budget, Reader};
 use std::alloc::Global;
 
 /// What is known of a page so far.
@@ -58,20 +59,14 @@ pub extern "C" fn naplps_check_begin(page: &mut Checking, alloc: Global, budget:
 {
     drop(page.take(alloc));
     let Some(budget) = Budget::new(budget) else {
-        return Answer::no_budget_answer();
+        return Answer::bare_answer(NO_BUDGET);
     };
     match Box::new(alloc, Check::new(alloc, budget)) {
         Ok(check) => {
             page.put(alloc, check);
             Answer::accepted_answer(0)
         }
-        Err(_) => Answer::refused_answer(
-            Refusal {
-                fault: Fault::Memory,
-                place: 0,
-            },
-            0,
-        ),
+        Err(_) => Answer::refused_answer(memory_refusal_at_end(&[]), 0),
     }
 }
 
@@ -82,7 +77,7 @@ pub extern "C" fn naplps_check_feed(page: &mut Checking, alloc: Global, piece: &
     ensures { FeedsPiece page.old.check page.new.check piece.now result }
 {
     let Some(mut check) = page.take(alloc) else {
-        return Answer::not_begun_answer();
+        return Answer::bare_answer(NOT_BEGUN);
     };
     let answer = check.feed(piece);
     page.put(alloc, check);
@@ -97,7 +92,7 @@ pub extern "C" fn naplps_check_finish(page: &mut Checking, alloc: Global) -> Ans
 {
     match page.take(alloc) {
         Some(check) => Box::into_inner(check).finish(),
-        None => Answer::not_begun_answer(),
+        None => Answer::bare_answer(NOT_BEGUN),
     }
 }
 

@@ -5,7 +5,7 @@ pub use Rattle.nap_canon.specs.Batches.{CutAfter, Joins, JoinsAfter, Parted, Poi
 unfoldable pub use Rattle.nap_canon.specs.Batches.{points_bytes}
 pub use Rattle.nap_canon.specs.Buffers.{with_bytes_at}
 pub use Rattle.nap_canon.specs.Checking.{check_after, check_of_parts, expected_after, expected_after_any, is_plain_code, lengths_word, may_end, may_end_at, reset_word, seen_after}
-pub use Rattle.nap_canon.specs.Commands.{drawing_with_set_color, effect, effects, look_with_flag}
+pub use Rattle.nap_canon.specs.Commands.{Command, drawing_with_set_color, effect, effects, look_with_flag}
 pub use Rattle.nap_canon.specs.Concluding.{Concludes, EndsOutput, answer_of}
 pub use Rattle.nap_canon.specs.Converting.{Converts, IsPrefixOf, RefusesBy, StopsAtOnce, count_of}
 pub use Rattle.nap_canon.specs.Equality.{same_base, same_colour, same_flag, same_move, same_pen, same_size, same_texture}
@@ -13,7 +13,7 @@ pub use Rattle.nap_canon.specs.Laws.{CanonicalStreamsAgree, FormsAgree, IsReadAs
 pub use Rattle.nap_canon.specs.PageTexts.{IsPageText, RefusesPage, refusal_of_text}
 unfoldable pub use Rattle.nap_canon.specs.Plain.{AllMayFollow, DomainFirst, DomainNext}
 pub use Rattle.nap_canon.specs.Plain.{ArePlain, IsAbsolute, IsNoOpcode, IsPlain, IsPlainCode, LengthsNext, MayFollowCode, ResetNext}
-pub use Rattle.nap_canon.specs.Preludes.{base_commands, colour_commands, flag_commands, given_size_commands, mask_commands, named_size_commands, option_commands, pen_commands, unless, words_commands}
+pub use Rattle.nap_canon.specs.Preludes.{base_commands, colour_commands, flag_commands, given_size_commands, mask_commands, named_size_commands, pen_commands, unless, words_commands}
 unfoldable pub use Rattle.nap_canon.specs.Preludes.{colour_prelude, pel_prelude, pen_prelude, prelude, text_prelude, texture_prelude}
 pub use Rattle.nap_canon.specs.Range.{AttributesInRange}
 pub use Rattle.nap_canon.specs.SinkLaws.{sends_cut, sends_more, sends_none, took_broke, took_more, took_none}
@@ -26,8 +26,7 @@ unfoldable pub use Rattle.nap_canon.specs.Text.{pieces, pieces_bytes, text_end_a
 pub use Rattle.nap_canon.specs.TextAnswers.{IsTextAnswer}
 pub use Rattle.nap_canon.specs.TextParts.{pieces-append, pieces_bytes-append, text_end_after-append}
 pub use Rattle.nap_canon.specs.Writing.{AppendsCommands, AppendsNext, AppendsPiece, AppendsPieces, PathOf, Puts, PutsPrefix, RestIsCurrent, SendsPartly, SendsWholly, SpellsNext, WritesPendingAnd, WritesPieces, WritesWhole, put_count}
-pub use Rattle.nap_canon.specs.declared.command.Command.{Command}
-pub use Rattle.nap_canon.specs.declared.command.Flag.{Flag}
+pub use Rattle.nap_canon.specs.declared.pending.prelude.Flag.{Flag}
 pub use Rattle.nap_canon.specs.declared.conversion.ConvertFault.{ConvertFault}
 pub use Rattle.nap_canon.specs.declared.text.CanonFault.{CanonFault}
 pub use Rattle.nap_canon.specs.declared.text.Form.{Form}
@@ -38,7 +37,15 @@ pub use Rattle.nap_canon.specs.declared.plain.Expected.{Expected}
 pub use Rattle.nap_canon.specs.declared.plain.PlainCheck.{PlainCheck}
 pub use Rattle.nap_canon.specs.declared.text_end.TextEnd.{TextEnd}
 pub use Rattle.nap_canon.specs.declared.writer.Writer.{Writer}
-pub use Rattle.nap_codes.proofs.PublicLaws.{code_is_spelled, code_length, code_stays, code_taken, format_effector_known, one_byte_opcode, refused_index, refused_stays, refused_taken, steps_are_lexed}
+pub use Rattle.nap_canon.specs.declared.text.CanonFault.TheVariants.{Illegal, Memory}
+pub use Rattle.nap_canon.specs.declared.text.Form.TheVariants.{One, Two}
+pub use Rattle.nap_canon.specs.declared.text_end.TextEnd.TheVariants.{InRun, NoRun}
+pub use Rattle.nap_codes.specs.declared.code_set.CharSet.TheVariants.{Primary}
+pub use Rattle.nap_codes.specs.declared.code_set.GSet.TheVariants.{G0, G1, G2, G3}
+pub use Rattle.nap_codes.specs.declared.control.Row.TheVariants.{Whole}
+pub use Rattle.nap_list.specs.declared.attribute.Pen.TheVariants.{After, At}
+pub use Rattle.nap_list.specs.declared.sink.SinkFault.TheVariants.{Write}
+pub use Rattle.nap_codes.proofs.PublicLaws.{code_is_spelled, code_length, format_effector_known, front-nothing, lex_result-code, lex_result-fault, lex_result-front, on_code, on_fault, on_more, one_byte_opcode, opcode_in_gl, with_code}
 unfoldable pub use Rattle.nap_codes.specs.CodeSets.{after_control0, with_set}
 pub use Rattle.nap_canon.specs.Names.{AllInRange, Answers, AnswersBy, Appends, AreCurrent, AreWholeOperands, Area, Attributes, AttributesFit, Base, Batch, BreaksAmong, BreaksInRun, CanJoin, Cause, CharSet, CharSize, Code, CodeFault, CodeSet, CodeSets, Colour, ColourFits, ColourInRange, Components, Consumes, Coordinates, CursorKind, Displacement, DrawFault, Drawing, Entry, FailsAfter, Fault, FeedFault, Feeds, FirstIsCurrent, Fits, FlushedOnce, FormatEffector, Front, GSet, Ghosts, Grows, HaltsAfter, Hand, HandInRange, HasRead, HasSixteenBitParts, InRange, Ink, InkInRange, IsAddress, IsAlone, IsCode, IsCounted, IsCutOff, IsGraphic, IsIllegalAt, IsInRange, IsInSquare, IsKnown, IsOperandByte, IsRead, IsReadWhole, IsRun, IsSome, IsTaken, IsWord, Keeps, LacksWithin, LastChar, LastRead, Legal, LexResult, LexerState, Machine, Mask, MaskFits, Mode, ModeZeroIsBase, NoneFailed, Opcode, OpenDefinition, OperandLengths, Origin, Outcome, Pen, PenFits, PenInRange, Placed, Preset, Put, PutSome, Putting, Reader, Reading, Refusal, Row, RuleResult, Sending, Sends, SendsAll, SendsSome, Shape, ShapeKind, SinkFault, Size, SizeInRange, Spells, State, Step, StepMade, Steps, StepsBy, StepsThrough, StreamFront, TakesAll, TextInRange, TextLook, TextStep, Texture, TextureFits, TextureInRange, TookPrefix, Unfinished, WantsMore, WantsSome, Work, Writes, WritingTo, addresses, after, after_charge, after_drawing, and_then, arc_on, arc_points, area_of, at_code, at_end, at_fault, at_least_one, at_more, at_most_limit, attributes, backward, base_after, batch_entries, begun, between, blink, blinks, body_of, budget_of, bytes_of, carried_words, cause_of, char_on, chunks_rest, chunks_size, circle_closed, closed_front, code_rule, colour_code, colour_of, colour_of_base, colour_only, complete, complete_pairs, definition_after, definition_ended, definition_ended_by, definition_opened, device, domain_rule, down, drawn_front, effect_on_drawing, ended, ended_by, entries_result, entry_of_shape, entry_result, field_on, first_and_more, flush_count, format_effector, forward, from_pen, front_by, front_in, grows_more, hand_attributes, hand_of, home, if◌then◌else◌, in_gl, ink_attributes, ink_of, is_graphic, is_known, is_operand, is_operand_byte, known_after, last_after, left_of, lex_result_by, line_entry, lines_count, lines_prefix, lines_rest, map_rule, means, memory, moves, moves_of, multi_of, nat_le, no_names, nothing, one_entry_result, open_run, opened_front, operands, option_and_then, option_map, outcome_by_front, outcome_from, outline, paused, pen_only, pen_point, pen_result, place_at, point_at, point_attributes, point_entry, points_limit, points_prefix, points_rest, poly_on, poly_points, pos, prepend, put_begins, put_ends, put_goes, put_halts, reading, rect_chain_spans, rect_on, refusal, refusal_of, refused, replicate, rest_of, restored_drawing, return, rule, rule_result, run_front, run_length, run_limit, sending, set_at, set_color_rule, set_color_under, shape_from_pen, shape_from_point, shape_on, shift_in, shift_out, shown_front, single_of, single_shift3, sink_of, sized_lines, sized_text, slice_get, slice_index, some_put, span_line_entry, start, start_domain, start_drawing, start_machine, start_sets, start_text, start_texture, start_work, steps_left, steps_limit, stream, text_count, text_entry, text_entry_as, text_prefix, unfinished, unwrap_or, up, with_attributes, with_colour, with_definition, with_domain, with_drawing, with_drawn, with_end, with_last, with_operands, with_pairs, with_pen_at, with_run, with_run_by, words_of, write_fails, ⊤, ◌&&◌, ◌==◌}
 unfoldable pub use Rattle.nap_codes.specs.Front.{argument_front, argument_of, control0_front, control1_front, designated_front, designation_front, escape_front, final_front, front, gl_front, last_byte, more_front, non_pdi_code, one_byte_later, opcode_front, pdi_front, position_front, sequence_front, shifted_front, single_shift_front, with_argument}

@@ -1,8 +1,7 @@
 -- The proofs of the laws.
 
 use Rattle.nap_list.specs.declared.device.Outlet as outlet
-use Rattle.nap_canon.specs.declared.text.Form.TheVariants.{One, Two}
-use Rattle.nap_canon.proofs.Common.{CanonicalStreamsAgree, FormsAgree, PlainOperandLengths, PreludeLeads, TextIsPlain, TextIsRead, TextLeads, TextOfPrefix, WritesText}
+use Rattle.nap_canon.proofs.Common.{CanonicalStreamsAgree, FormsAgree, One, PlainOperandLengths, PreludeLeads, TextIsPlain, TextIsRead, TextLeads, TextOfPrefix, Two, WritesText}
 use Rattle.nap_canon.proofs.operand_lengths.ActingLemmas as acting
 use Rattle.nap_canon.proofs.reading_back.CanonicalLaws as canonical
 use Rattle.nap_canon.proofs.reading_back.FormLemmas as forms

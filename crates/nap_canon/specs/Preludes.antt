@@ -1,8 +1,8 @@
 use Rattle.std.specs.Prelude.{Bool, List, None, Option, Some, [], if◌then◌else◌, ℕ, ◌&&◌, ◌++◌, ◌==◌, ◌∷◌}
 use Rattle.nap_canon.specs.Names.{Attributes, Base, CharSize, Colour, Displacement, Drawing, Pen, TextLook, Texture}
 use Rattle.nap_canon.specs.Equality.{same_move, same_pen, same_colour, same_base, same_size, same_texture, same_flag}
-use Rattle.nap_canon.specs.declared.command.Command.{Command}
-use Rattle.nap_canon.specs.declared.command.Flag.{Flag}
+use Rattle.nap_canon.specs.Commands.{Command}
+use Rattle.nap_canon.specs.declared.pending.prelude.Flag.{Flag}
 
 -- The prelude of an entry: the commands that make its attributes current, for each that isn't.
 
@@ -10,53 +10,48 @@ use Rattle.nap_canon.specs.declared.command.Flag.{Flag}
 abbrev pub unless : Bool → List Command → List Command
 unless same commands = if same then [] else commands
 
--- the command of an option, if there is one
-abbrev pub option_commands : Option Command → List Command
-option_commands None = []
-option_commands (Some c) = c ∷ []
-
 -- the command that sets a pen
 abbrev pub pen_commands : Pen → List Command
-pen_commands (Pen.At p) = Command.PointSet p ∷ []
+pen_commands (Pen.At p) = Command.point_set p ∷ []
 pen_commands _ = []
 
 -- the command that selects mode 0, from this colour
 abbrev pub base_commands : Colour → List Command
 base_commands (Colour.Own origin) = []
 base_commands (Colour.Direct grb) = []
-base_commands _ = Command.SelectBase ∷ []
+base_commands _ = Command.select_base ∷ []
 
 -- the commands that set a colour, from this base and this colour
 abbrev pub colour_commands : Base → Colour → Colour → List Command
-colour_commands base old (Colour.Own origin) = Command.SelectBase ∷ []
-colour_commands base old (Colour.Direct grb) = base_commands old ++ unless (same_base base (Base.Direct grb)) (Command.SetColor grb ∷ [])
-colour_commands base old (Colour.Front a) = Command.SelectFront a ∷ []
-colour_commands base old (Colour.Pair a b) = Command.SelectPair a b ∷ []
+colour_commands base old (Colour.Own origin) = Command.select_base ∷ []
+colour_commands base old (Colour.Direct grb) = base_commands old ++ unless (same_base base (Base.Direct grb)) (Command.set_color grb ∷ [])
+colour_commands base old (Colour.Front a) = Command.select_front a ∷ []
+colour_commands base old (Colour.Pair a b) = Command.select_pair a b ∷ []
 colour_commands base old (Colour.ByReset preset) = []
 
 -- the command that sets the word of a texture, and its mask if it isn't this one
 abbrev pub mask_commands : ℕ → Option Displacement → Option Displacement → List Command
-mask_commands word old None = Command.Texture word ∷ []
-mask_commands word None (Some m) = Command.TextureMask word m ∷ []
-mask_commands word (Some old) (Some m) = if same_move old m then Command.Texture word ∷ [] else Command.TextureMask word m ∷ []
+mask_commands word old None = Command.texture word ∷ []
+mask_commands word None (Some m) = Command.texture_mask word m ∷ []
+mask_commands word (Some old) (Some m) = if same_move old m then Command.texture word ∷ [] else Command.texture_mask word m ∷ []
 
 -- the command that sets the words of text
 abbrev pub words_commands : TextLook → TextLook → List Command
-words_commands old t = unless (old.first == t.first && old.second == t.second) (Command.Text t.first t.second ∷ [])
+words_commands old t = unless (old.first == t.first && old.second == t.second) (Command.text t.first t.second ∷ [])
 
 -- the command that sets the words of text and a given size
 abbrev pub given_size_commands : TextLook → TextLook → CharSize → List Command
-given_size_commands old t (CharSize.Given m) = if same_size old.size (CharSize.Given m) then words_commands old t else Command.TextSize t.first t.second m ∷ []
+given_size_commands old t (CharSize.Given m) = if same_size old.size (CharSize.Given m) then words_commands old t else Command.text_size t.first t.second m ∷ []
 given_size_commands old t (CharSize.Named size) = words_commands old t
 
 -- the command that sets a named size
 abbrev pub named_size_commands : CharSize → CharSize → List Command
 named_size_commands old (CharSize.Given m) = []
-named_size_commands old (CharSize.Named size) = unless (same_size old (CharSize.Named size)) (Command.Named size ∷ [])
+named_size_commands old (CharSize.Named size) = unless (same_size old (CharSize.Named size)) (Command.named size ∷ [])
 
 -- the command that sets a flag on or off
 abbrev pub flag_commands : Flag → Bool → Bool → List Command
-flag_commands f old on = unless (same_flag old on) (Command.Flag f on ∷ [])
+flag_commands f old on = unless (same_flag old on) (Command.flag f on ∷ [])
 
 -- the prelude of each attribute
 
@@ -66,7 +61,7 @@ pen_prelude old (Some pen) = unless (same_pen old pen) (pen_commands pen)
 
 unfoldable pub pel_prelude : Displacement → Option Displacement → List Command
 pel_prelude old None = []
-pel_prelude old (Some m) = unless (same_move old m) (Command.Pel m ∷ [])
+pel_prelude old (Some m) = unless (same_move old m) (Command.pel m ∷ [])
 
 unfoldable pub colour_prelude : Base → Colour → Option Colour → List Command
 colour_prelude base old None = []

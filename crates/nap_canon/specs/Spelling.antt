@@ -1,7 +1,7 @@
 use Rattle.std.specs.Prelude.{Bool, List, None, Option, Some, [], if◌then◌else◌, map, ℕ, ◌%◌, ◌++◌, ◌+◌, ◌==◌, ◌∷◌}
 use Rattle.nap_canon.specs.Names.{Area, CharSet, Colour, Components, Coordinates, CursorKind, Drawing, Entry, Mask, Pen, Size, TextStep, addr_bytes, displacement_to, format_effector, grb_bytes, move_bytes, point_bytes}
-use Rattle.nap_canon.specs.declared.command.Command.{Command}
-use Rattle.nap_canon.specs.declared.command.Flag.{Flag}
+use Rattle.nap_canon.specs.Commands.{Command}
+use Rattle.nap_canon.specs.declared.pending.prelude.Flag.{Flag}
 use Rattle.nap_canon.specs.declared.text.Form.{Form}
 use Rattle.nap_canon.specs.Preludes.{colour_prelude}
 use Rattle.nap_canon.specs.Equality.{same_pen}
@@ -50,18 +50,18 @@ flag_byte Flag.Scroll on = if on then 0x57 else 0x58
 
 -- how a command is spelled
 abbrev pub command_piece : Command → Piece
-command_piece (Command.PointSet p) = opcode 0x24 (point_bytes p)
-command_piece (Command.Pel m) = domain (move_bytes m)
-command_piece Command.SelectBase = select []
-command_piece (Command.SelectFront a) = select (addr_bytes a)
-command_piece (Command.SelectPair a b) = select (addr_bytes a ++ addr_bytes b)
-command_piece (Command.SetColor grb) = opcode 0x3C (grb_bytes grb)
-command_piece (Command.Texture word) = opcode 0x23 (word_byte word ∷ [])
-command_piece (Command.TextureMask word m) = opcode 0x23 (word_byte word ∷ move_bytes m)
-command_piece (Command.Text first second) = opcode 0x22 (word_byte first ∷ word_byte second ∷ [])
-command_piece (Command.TextSize first second m) = opcode 0x22 (word_byte first ∷ word_byte second ∷ move_bytes m)
-command_piece (Command.Named size) = escape (size_byte size)
-command_piece (Command.Flag f on) = escape (flag_byte f on)
+command_piece (Command.point_set p) = opcode 0x24 (point_bytes p)
+command_piece (Command.pel m) = domain (move_bytes m)
+command_piece Command.select_base = select []
+command_piece (Command.select_front a) = select (addr_bytes a)
+command_piece (Command.select_pair a b) = select (addr_bytes a ++ addr_bytes b)
+command_piece (Command.set_color grb) = opcode 0x3C (grb_bytes grb)
+command_piece (Command.texture word) = opcode 0x23 (word_byte word ∷ [])
+command_piece (Command.texture_mask word m) = opcode 0x23 (word_byte word ∷ move_bytes m)
+command_piece (Command.text first second) = opcode 0x22 (word_byte first ∷ word_byte second ∷ [])
+command_piece (Command.text_size first second m) = opcode 0x22 (word_byte first ∷ word_byte second ∷ move_bytes m)
+command_piece (Command.named size) = escape (size_byte size)
+command_piece (Command.flag f on) = escape (flag_byte f on)
 
 -- the displacements from each point to the next
 unfoldable pub displacement_bytes : Coordinates → List Coordinates → List ℕ

@@ -1,6 +1,6 @@
 use Rattle.std.specs.Prelude.{Bool, Err, List, None, Ok, OnErr, OnOk, Option, Result, Some, [], false, is_err, length, map, take, true, ℕ, ◌++◌, ◌<◌, ◌∷◌, ◌≡◌, ◌≤◌}
-use Rattle.nap_canon.specs.Names.{Drawing, EachIsCurrent, Entry, State, after, attributes, walk, with_attributes}
-use Rattle.nap_canon.specs.declared.command.Command.{Command}
+use Rattle.nap_canon.specs.Names.{Drawing, EachIsCurrent, Entry, Pen, State, after, attributes, walk, with_attributes, with_pen}
+use Rattle.nap_canon.specs.Commands.{Command}
 use Rattle.nap_canon.specs.declared.text.Form.{Form}
 use Rattle.nap_canon.specs.declared.pending.Pending.{Pending}
 use Rattle.nap_canon.specs.declared.pending.spelling.Path.{Path}
@@ -51,6 +51,10 @@ is_short _ = true
 abbrev pub PathOf : Option Path → Entry → Type 0
 PathOf None e = is_short e ≡ true
 PathOf (Some path) e = (form : Form) (d : Drawing) → spelling_pieces form d e ≡ opcode path.opcode (shape_bytes path.points.now) ∷ []
+
+-- the pen moves there, and nothing else changes
+abbrev pub MovesPen : Pen → State → State → Type 0
+MovesPen pen s t = (t.drawing ≡ with_pen pen s.drawing) × (t.definition ≡ s.definition)
 
 -- What a writer of a text sends.
 

@@ -1,12 +1,13 @@
 //! A sink that writes the canonical text of its entries (PROFILE.md, Canonical text).
 ghost use Rattle.std.specs.Prelude.{◌≡◌, ◌<◌, ◌≤◌, [], ◌∷◌, length, drop, true, false, OnOk, IsErrOf};
-ghost use Rattle.nap_canon.specs.Names.{AllFit, EachIsCurrent, FirstIsCurrent, Fits, after, batch_entries};
+ghost use Rattle.nap_canon.specs.Names.{AllFit, EachIsCurrent, Fits, after, batch_entries};
 ghost use Rattle.nap_canon.specs.Batches.{PutsAfter, PutsSome};
 ghost use Rattle.nap_canon.specs.Concluding.{EndsOutput, bytes_taken};
 ghost use Rattle.nap_canon.specs.Sinking.{StartsTextIn, StartsText, Took, Broke};
 ghost use Rattle.nap_canon.specs.SinkLaws.{took_none, took_more, took_broke};
 
 use crate::byte_sink::Output;
+use crate::current::batch_begins_current;
 use crate::text::Form;
 use crate::writer::Writer;
 use nap_list::{Batch, BatchFault, Entry, Outlet, Shape, Sink, SinkFault};
@@ -73,14 +74,6 @@ impl<O: Outlet + Drop> CanonSink<O> {
         Ok(())
     }
 
-    /// Whether the first entry of a batch needs no prelude, since its attributes are current.
-    #[inline(always)]
-    fn first_is_joinable(&self, batch: &Batch) -> bool
-        ensures { result ≡ true → (O.failed self.now.outlet ≡ false) × FirstIsCurrent batch.now self.now.state.drawing }
-    {
-        !self.failed() && self.writer.first_is_current(batch)
-    }
-
     /// Takes the first entry of a batch, and those after it that make one write with it. Returns their number; so does
     /// the error.
     #[inline(always)]
@@ -95,10 +88,10 @@ impl<O: Outlet + Drop> CanonSink<O> {
         // The code for a text is its own, since its kind is known there.
         match batch {
             Batch::Text {
-                set,
-                codes,
-                pen,
                 drawing,
+                pen,
+                codes,
+                set,
             } => self.writer.put_start(&Batch::Text {
                 set: *set,
                 codes,
@@ -107,22 +100,6 @@ impl<O: Outlet + Drop> CanonSink<O> {
             }),
             _ => self.writer.put_start(batch),
         }
-    }
-
-    /// Takes entries of a batch from `first`, whose attributes are current: as many as make one write, at least one.
-    /// Returns their number; so does the error.
-    #[inline(always)]
-    fn put_one_write(&mut self, batch: &Batch, first: usize) -> Result<usize, usize>
-        requires some { first < length (batch_entries batch.now) }
-        requires current { EachIsCurrent self.old.state (drop first (batch_entries batch.now)) }
-        requires works { O.failed self.old.outlet ≡ false }
-        ensures { PutsSome O.Outlet (drop first (batch_entries batch.now)) self.old self.new result }
-    {
-        let count = self.writer.joining_count(batch, first);
-        if count == 0 {
-            return self.writer.put_next(batch, first);
-        }
-        self.writer.put_joined(batch, first, count)
     }
 
     /// Takes a batch from `first`, where the attributes of each entry are current. The error has the number of entries
@@ -137,7 +114,7 @@ impl<O: Outlet + Drop> CanonSink<O> {
         let count = batch.len();
         let mut taken = first;
         while taken < count {
-            match self.put_one_write(batch, taken) {
+            match self.writer.put_more(batch, taken) {
                 Ok(more) => taken += more,
                 Err(more) => return Err(taken + more),
             }
@@ -161,30 +138,18 @@ impl<O: Outlet + Drop> CanonSink<O> {
         }
     }
 
-    /// Takes a batch up to a failed write. The error has the number of entries that were taken.
-    #[inline(always)]
-    fn put_all(&mut self, batch: &Batch) -> Result<(), usize>
-        requires { AllFit self.old.state (batch_entries batch.now) }
-        ensures { PutsAfter O.Outlet 0 (batch_entries batch.now) self.old self.new result }
-    {
-        if self.first_is_joinable(batch) {
-            return self.put_current(batch, 0);
-        }
-        self.put_with_prelude(batch)
-    }
-
     /// Returns how many bytes the outlet took from this sink, saturating at the greatest `u64`.
     pub fn written(&self) -> u64
         ensures { result ≡ self.now.written }
     {
-        self.writer.target().written
+        self.writer.target.written
     }
 
     /// Whether a write of this sink has failed.
     pub fn failed(&self) -> bool
         ensures { result ≡ O.failed self.now.outlet }
     {
-        self.writer.target().outlet.failed()
+        self.writer.target.outlet.failed()
     }
 
     /// Returns the outlet, which isn't flushed.
@@ -192,7 +157,8 @@ impl<O: Outlet + Drop> CanonSink<O> {
         ensures { result ≡ self.outlet }
     {
         let CanonSink { writer } = self;
-        let Output { outlet, .. } = writer.into_inner();
+        let Writer { target, .. } = writer;
+        let Output { outlet, .. } = target;
         outlet
     }
 
@@ -230,13 +196,17 @@ impl<O: Outlet + Drop> Sink for CanonSink<O> {
 
     #[inline(always)]
     fn put_batch(&mut self, batch: &Batch) -> Result<(), BatchFault> {
-        match self.put_all(batch) {
-            Ok(()) => Ok(()),
-            Err(taken) => Err(BatchFault {
-                taken,
-                fault: SinkFault::Write,
-            }),
+        let fault = SinkFault::Write;
+        if !self.failed() && batch_begins_current(self.writer.state.drawing(), batch) {
+            if let Err(taken) = self.put_current(batch, 0) {
+                return Err(BatchFault { taken, fault });
+            }
+            return Ok(());
         }
+        if let Err(taken) = self.put_with_prelude(batch) {
+            return Err(BatchFault { taken, fault });
+        }
+        Ok(())
     }
 
     fn put_shape(&mut self, _: Global, shape: &Shape) -> Result<(), SinkFault> {

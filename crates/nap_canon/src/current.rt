@@ -1,12 +1,25 @@
 //! Entries whose attributes are already current.
 ghost use Rattle.std.specs.Prelude.{◌≡◌, ◌↔◌, IsTrue, true, ◌<◌, ◌≤◌, ◌+◌, ◌∷◌, length, take, drop};
-ghost use Rattle.nap_list.specs.declared.entry.Entry.TheVariants.{Char, Line, Rect, Point as PointEntry};
 ghost use Rattle.nap_canon.specs.Names.{AreCurrent, FirstIsCurrent, Fits, after, colour_only, entry_of_shape, hand_attributes, ink_attributes, ink_of, point_attributes};
+ghost use Rattle.nap_canon.specs.Equality.{same_colour};
+ghost use Rattle.nap_canon.specs.Writing.{MovesPen};
 
-use crate::command::is_colour;
-use nap_codes::CharSet;
-use nap_list::{Base, Batch, Colour, Drawing, Entry, Hand, Ink, Pen, Shape, WrittenState, corner};
-use nap_values::{Move, Point};
+use nap_list::{Base, Batch, Colour, Drawing, Entry, Hand, Ink, Pen, Shape, WrittenState};
+use nap_values::Move;
+
+/// Whether a colour is the other one. Direct colours are compared first, since most are that.
+#[inline(always)]
+pub(crate) fn is_colour(old: &Colour, colour: &Colour) -> bool
+    ensures { result ≡ same_colour old.now colour.now }
+{
+    if let Colour::Direct(grb) = colour {
+        return match old {
+            Colour::Direct(now) => now == grb,
+            _ => false,
+        };
+    }
+    old == colour
+}
 
 /// Whether a colour is current; a direct colour has to be the colour of mode 0 too.
 #[inline(always)]
@@ -68,102 +81,18 @@ pub(crate) fn step_shape(state: &mut WrittenState, shape: &Shape, is_current: bo
     state.step_shape(shape);
 }
 
-/// Advances past a line, whose attributes may be known to be current.
+/// Advances past an entry. Where its attributes were current, that only moves the pen, to this place.
 #[inline(always)]
-pub(crate) fn step_line(
-    state: &mut WrittenState,
-    from: Point,
-    to: Point,
-    ink: &Ink,
-    is_current: bool,
-)
-    requires fits { Fits state.old (Line from to ink.now) }
-    requires current { is_current ≡ true → AreCurrent (ink_attributes ink.now) state.old.drawing }
-    ensures { state.new ≡ after state.old (Line from to ink.now) }
+pub(crate) fn step_to(state: &mut WrittenState, pen: Pen, entry: &Entry, is_current: bool)
+    requires fits { Fits state.old entry.now }
+    requires moves { is_current ≡ true → MovesPen pen state.old (after state.old entry.now) }
+    ensures { state.new ≡ after state.old entry.now }
 {
-    let entry = Entry::Line {
-        from,
-        to,
-        ink: *ink,
-    };
     if is_current {
-        state.move_pen(Pen::At(to), &entry);
+        state.move_pen(pen, entry);
         return;
     }
-    state.step(&entry);
-}
-
-/// Advances past a rectangle, whose attributes may be known to be current.
-#[inline(always)]
-pub(crate) fn step_rect(
-    state: &mut WrittenState,
-    filled: bool,
-    from: Point,
-    to: Point,
-    ink: &Ink,
-    is_current: bool,
-)
-    requires fits { Fits state.old (Rect filled from to ink.now) }
-    requires current { is_current ≡ true → AreCurrent (ink_attributes ink.now) state.old.drawing }
-    ensures { state.new ≡ after state.old (Rect filled from to ink.now) }
-{
-    let entry = Entry::Rect {
-        filled,
-        from,
-        to,
-        ink: *ink,
-    };
-    if is_current {
-        state.move_pen(Pen::At(corner(from, to)), &entry);
-        return;
-    }
-    state.step(&entry);
-}
-
-/// Advances past a point, whose attributes may be known to be current.
-#[inline(always)]
-pub(crate) fn step_point(
-    state: &mut WrittenState,
-    at: Point,
-    pel: Move,
-    colour: Colour,
-    is_current: bool,
-)
-    requires fits { Fits state.old (PointEntry at pel colour) }
-    requires current { is_current ≡ true → AreCurrent (point_attributes pel colour) state.old.drawing }
-    ensures { state.new ≡ after state.old (PointEntry at pel colour) }
-{
-    let entry = Entry::Point { at, pel, colour };
-    if is_current {
-        state.move_pen(Pen::At(at), &entry);
-        return;
-    }
-    state.step(&entry);
-}
-
-/// Advances past a character, whose attributes may be known to be current.
-#[inline(always)]
-pub(crate) fn step_char(
-    state: &mut WrittenState,
-    set: CharSet,
-    code: u8,
-    hand: &Hand,
-    is_current: bool,
-)
-    requires fits { Fits state.old (Char set code hand.now) }
-    requires current { is_current ≡ true → AreCurrent (hand_attributes hand.now) state.old.drawing }
-    ensures { state.new ≡ after state.old (Char set code hand.now) }
-{
-    let entry = Entry::Char {
-        set,
-        code,
-        hand: *hand,
-    };
-    if is_current {
-        state.move_pen(Pen::After, &entry);
-        return;
-    }
-    state.step(&entry);
+    state.step(entry);
 }
 
 /// Returns the item of a slice at an index.

@@ -4,7 +4,6 @@
 mod byte_buffer;
 mod byte_sink;
 mod canon_sink;
-mod command;
 mod conversion;
 mod current;
 pub mod laws;

@@ -1,10 +1,8 @@
 //! Pending text: pieces of canonical text that aren't written yet.
 ghost use Rattle.std.specs.Prelude.{◌≡◌, ◌≤◌, ◌+◌, ◌++◌, [], ◌∷◌, length};
-ghost use Rattle.nap_codes.specs.declared.code_set.GSet.TheVariants.{G0};
-ghost use Rattle.nap_canon.specs.declared.text_end.TextEnd.TheVariants.{NoRun, InRun};
 ghost use Rattle.nap_canon.specs.Batches.{run_opening};
 ghost use Rattle.nap_canon.specs.Spelling.{word_byte, opcode, control, joinable_piece};
-ghost use Rattle.nap_canon.specs.Text.{gl_of, shift_to_opcodes, shift_to_primary, run_after, header};
+ghost use Rattle.nap_canon.specs.Text.{gl_of, shift_to_opcodes, shift_to_primary, run_after};
 ghost use Rattle.nap_canon.specs.Writing.{AppendsPiece};
 ghost use Rattle.nap_canon.specs.Buffers.{buffer_limit};
 
@@ -58,7 +56,7 @@ pub(crate) mod opcodes {
 }
 
 /// The operand of DOMAIN in canonical text: eight words and four words.
-const LENGTHS: u8 = 0x5F;
+pub(crate) const LENGTHS: u8 = 0x5F;
 
 /// Canonical text that isn't written yet, and how the text ends with it.
 #[derive(Drop)]
@@ -115,7 +113,7 @@ impl Pending {
         requires space { length self.old.bytes + 2 ≤ buffer_limit }
         ensures bytes { self.new.bytes ≡ self.old.bytes ++ run_opening self.old.text_end code count }
         ensures most { length self.new.bytes ≤ length self.old.bytes + 2 }
-        ensures text_end { self.new.text_end ≡ InRun (run_after self.old.text_end code count) }
+        ensures text_end { self.new.text_end ≡ TextEnd.InRun (run_after self.old.text_end code count) }
     {
         if self.text_end.joins(code, count) {
             let length = self.text_end.run_length() + count;
@@ -153,7 +151,7 @@ impl Pending {
         requires space { length self.old.bytes + 1 ≤ buffer_limit }
         ensures bytes { self.new.bytes ≡ self.old.bytes ++ shift_to_primary (gl_of self.old.text_end) }
         ensures most { length self.new.bytes ≤ length self.old.bytes + 1 }
-        ensures text_end { self.new.text_end ≡ NoRun G0 }
+        ensures text_end { self.new.text_end ≡ TextEnd.NoRun GSet.G0 }
     {
         if self.text_end.gl() != GSet::G0 {
             self.bytes.push(0x0F);
@@ -170,13 +168,5 @@ impl Pending {
     {
         self.bytes.extend(bytes);
         self.text_end = TextEnd::NoRun(self.text_end.gl());
-    }
-
-    /// Appends the header: SO puts the PDI set into GL, and DOMAIN sets the operand lengths to eight and four.
-    pub(crate) fn append_header(&mut self)
-        requires { length self.old.bytes + 3 ≤ buffer_limit }
-        ensures { AppendsPiece (control header) self.old self.new }
-    {
-        self.append_control(&[0x0E, opcodes::DOMAIN, LENGTHS]);
     }
 }

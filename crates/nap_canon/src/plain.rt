@@ -1,10 +1,9 @@
 //! Plain streams (PROFILE.md, Plain streams).
 ghost use Rattle.std.specs.Prelude.{◌≡◌, ◌↔◌, IsTrue};
-ghost use Rattle.nap_canon.specs.Checking.{is_plain_code, seen_after, expected_after_any, expected_after, lengths_word, reset_word, check_of_parts, check_after, may_end};
+ghost use Rattle.nap_canon.specs.Checking.{is_plain_code, seen_after, expected_after, check_after, may_end};
 ghost use Rattle.nap_canon.specs.Plain.{IsPlain};
 
 use nap_codes::{Code, CodeSet, Lexer, Opcode, Step};
-use nap_values::Word;
 
 /// The codes seen so far.
 #[derive(Clone, Copy, Drop)]
@@ -55,30 +54,13 @@ impl CodesSeen {
     fn after_code(self, code: &Code) -> Option<CodesSeen>
         ensures { result ≡ seen_after self code.now }
     {
-        match self {
-            CodesSeen::Nothing => match code {
-                Code::Op(Opcode::Domain) => Some(CodesSeen::Drawing),
-                Code::Op(_) => None,
-                Code::DefGlyph(_) | Code::DefMask(_) => Some(CodesSeen::Definition),
-                _ => Some(CodesSeen::Nothing),
-            },
-            CodesSeen::Definition => match code {
-                Code::Op(_) => None,
-                _ => Some(CodesSeen::Definition),
-            },
-            CodesSeen::Drawing => Some(CodesSeen::Drawing),
+        match (self, code) {
+            (CodesSeen::Drawing, _) => Some(CodesSeen::Drawing),
+            (CodesSeen::Nothing, Code::Op(Opcode::Domain)) => Some(CodesSeen::Drawing),
+            (_, Code::Op(_)) => None,
+            (_, Code::DefGlyph(_) | Code::DefMask(_)) => Some(CodesSeen::Definition),
+            _ => Some(self),
         }
-    }
-}
-
-/// Returns what has to come after this code, if any code may come at its place.
-fn expected_after_any(code: &Code) -> Expected
-    ensures { result ≡ expected_after_any code.now }
-{
-    match code {
-        Code::Op(Opcode::Domain) => Expected::Lengths,
-        Code::Op(Opcode::Reset) => Expected::ResetWord,
-        _ => Expected::Any,
     }
 }
 
@@ -87,58 +69,18 @@ impl Expected {
     fn after_code(self, code: &Code) -> Option<Expected>
         ensures { result ≡ expected_after self code.now }
     {
-        match self {
-            Expected::Any => Some(expected_after_any(code)),
-            Expected::Lengths => match code {
-                Code::Operand(word) => lengths_word(*word),
-                _ => None,
-            },
-            Expected::ResetWord => match code {
-                Code::Operand(word) => Some(reset_word(*word)),
-                _ => Some(expected_after_any(code)),
-            },
-            Expected::Domain => match code {
-                Code::Operand(_) => Some(Expected::Domain),
-                Code::Op(Opcode::Domain) => Some(Expected::Lengths),
-                _ => None,
-            },
+        match (self, code) {
+            (Expected::Lengths, Code::Operand(word)) if word.get() == 31 => Some(Expected::Any),
+            (Expected::Lengths, _) => None,
+            (Expected::ResetWord, Code::Operand(word)) if word.get() % 2 == 1 => {
+                Some(Expected::Domain)
+            }
+            (Expected::Domain, Code::Operand(_)) => Some(Expected::Domain),
+            (_, Code::Op(Opcode::Domain)) => Some(Expected::Lengths),
+            (Expected::Domain, _) => None,
+            (_, Code::Op(Opcode::Reset)) => Some(Expected::ResetWord),
+            _ => Some(Expected::Any),
         }
-    }
-}
-
-/// Returns what has to come after the word of DOMAIN.
-fn lengths_word(word: Word) -> Option<Expected>
-    ensures { result ≡ lengths_word word }
-{
-    if word.get() == 31 {
-        Some(Expected::Any)
-    } else {
-        None
-    }
-}
-
-/// Returns what has to come after the first word of RESET.
-fn reset_word(word: Word) -> Expected
-    ensures { result ≡ reset_word word }
-{
-    if word.get() % 2 == 1 {
-        Expected::Domain
-    } else {
-        Expected::Any
-    }
-}
-
-/// Returns the check with these parts, if all of them hold.
-fn check_of_parts(
-    plain: bool,
-    begun: Option<CodesSeen>,
-    next: Option<Expected>,
-) -> Option<PlainCheck>
-    ensures { result ≡ check_of_parts plain begun next }
-{
-    match (plain, begun, next) {
-        (true, Some(begun), Some(next)) => Some(PlainCheck { begun, next }),
-        _ => None,
     }
 }
 
@@ -147,11 +89,11 @@ impl PlainCheck {
     fn after_code(&self, code: &Code) -> Option<PlainCheck>
         ensures { result ≡ check_after self.now code.now }
     {
-        check_of_parts(
-            is_plain_code(code),
-            self.begun.after_code(code),
-            self.next.after_code(code),
-        )
+        let begun = self.begun.after_code(code);
+        match (is_plain_code(code), begun, self.next.after_code(code)) {
+            (true, Some(begun), Some(next)) => Some(PlainCheck { begun, next }),
+            _ => None,
+        }
     }
 
     /// Whether the stream may end here.

@@ -135,24 +135,6 @@ fn attributes_in_range(attributes: &Attributes)
     }
 }
 
-fn two_points_in_range(from: Point, to: Point)
-    ensures from { IsInSquare from }
-    ensures to { IsInSquare to }
-{
-    point_in_range(from);
-    point_in_range(to);
-}
-
-fn times_in_range(on: Word, off: Word, delay: Word)
-    ensures on { IsWord on }
-    ensures off { IsWord off }
-    ensures delay { IsWord delay }
-{
-    word_in_range(on);
-    word_in_range(off);
-    word_in_range(delay);
-}
-
 /// States that the parts of the entry are in their ranges.
 pub(crate) fn in_range(entry: &Entry)
     ensures { InRange entry.now }
@@ -160,9 +142,10 @@ pub(crate) fn in_range(entry: &Entry)
     attributes_in_range(&entry.attributes());
     match entry {
         Entry::Point { at, .. } => point_in_range(*at),
-        Entry::Line { from, to, .. } | Entry::Rect { from, to, .. } => two_points_in_range(
-            *from, *to,
-        ),
+        Entry::Line { from, to, .. } | Entry::Rect { from, to, .. } => {
+            point_in_range(*from);
+            point_in_range(*to);
+        }
         Entry::Arc { points: list, .. } | Entry::Poly { points: list, .. } => points_in_range(
             list.as_slice(),
         ),
@@ -183,7 +166,9 @@ pub(crate) fn in_range(entry: &Entry)
             ..
         } => {
             addr_in_range(*at);
-            times_in_range(*on, *off, *delay);
+            word_in_range(*on);
+            word_in_range(*off);
+            word_in_range(*delay);
         }
         Entry::Wait(time) => word_in_range(*time),
         Entry::Field { area: of, .. } => area_in_range(*of),

@@ -1,18 +1,15 @@
 //! Writing of the canonical text of entries, one after another.
-ghost use Rattle.std.specs.Prelude.{◌≡◌, ◌≤◌, ◌+◌, ◌∷◌, length};
-ghost use Rattle.nap_codes.specs.declared.code_set.GSet.TheVariants.{G1};
-ghost use Rattle.nap_canon.specs.declared.text_end.TextEnd.TheVariants.{NoRun};
-ghost use Rattle.nap_list.specs.declared.entry.Entry.TheVariants.{Line, Rect, Char, Map};
+ghost use Rattle.std.specs.Prelude.{◌≡◌, ◌≤◌, ◌+◌, ◌∷◌, length, true};
 ghost use Rattle.nap_canon.specs.Names.{Fits, attributes, circle_closed, entry_of_shape, start, with_attributes};
 ghost use Rattle.nap_canon.specs.Spelling.{displacement_bytes, opcode, shape_bytes, shape, spelling_pieces};
 ghost use Rattle.nap_canon.specs.Text.{header, gl_of, text_end_after_header};
-ghost use Rattle.nap_canon.specs.Writing.{Puts, WritesBytes, WritesPendingAnd, WritesPieces};
+ghost use Rattle.nap_canon.specs.Writing.{Puts, WritesBytes, WritesPendingAnd, WritesPieces, is_short};
 ghost use Rattle.nap_canon.specs.Buffers.{buffer_limit};
 
 use crate::byte_buffer::ByteBuffer;
 use crate::byte_sink::ByteSink;
 use crate::current::step_shape;
-use crate::pending::{Path, Pending, opcodes, path_of, shape_opcode};
+use crate::pending::{LENGTHS, Path, Pending, opcodes, path_of, shape_opcode};
 use crate::text::Form;
 use crate::text_end::TextEnd;
 use nap_codes::GSet;
@@ -32,11 +29,11 @@ const MAX_DISPLACEMENTS_AFTER_PRELUDE: usize = 100;
 /// Writes the text of entries.
 #[derive(Drop)]
 pub(crate) struct Writer<T: ByteSink + Drop> {
-    target: T,
+    pub(crate) target: T,
     form: Form,
     /// The text that isn't written yet.
     pending: Pending,
-    state: WrittenState,
+    pub(crate) state: WrittenState,
 }
 
 impl<T: ByteSink + Drop> Writer<T> {
@@ -60,26 +57,12 @@ impl<T: ByteSink + Drop> Writer<T> {
 
     /// Writes the header: SO puts the PDI set into GL, and DOMAIN sets the operand lengths to eight and four.
     pub(crate) fn write_header(&mut self) -> Result<(), T::Fault>
-        ensures { WritesBytes T.sent header (NoRun (gl_of self.old.pending.text_end)) self.old self.new result }
+        ensures { WritesBytes T.sent header (TextEnd.NoRun (gl_of self.old.pending.text_end)) self.old self.new result }
     {
         self.pending.bytes.clear();
-        self.pending.append_header();
+        self.pending
+            .append_control(&[0x0E, opcodes::DOMAIN, LENGTHS]);
         self.target.write_all(self.pending.bytes.as_slice())
-    }
-
-    /// Returns the byte sink.
-    pub(crate) fn target(&self) -> &T
-        ensures { result.now ≡ self.now.target }
-    {
-        &self.target
-    }
-
-    /// Returns the byte sink, and ends the writer.
-    pub(crate) fn into_inner(self) -> T
-        ensures { result ≡ self.target }
-    {
-        let Writer { target, .. } = self;
-        target
     }
 
     /// Writes the displacements from a point to each of the others in turn.
@@ -165,29 +148,34 @@ impl<T: ByteSink + Drop> Writer<T> {
         }
     }
 
-    /// Writes the pending text, and the spelling of an entry whose attributes are current.
-    #[inline(always)]
-    fn write_spelling(&mut self, entry: &Entry) -> Result<(), T::Fault>
-        requires { length self.old.pending.bytes ≤ 162 }
-        ensures { WritesPieces T.sent (spelling_pieces self.old.form (with_attributes self.old.state.drawing (attributes entry.now)) entry.now) self.old self.new result }
+    /// Writes an arc or polygon that fits, as `put_ref` writes it.
+    #[inline(never)]
+    fn put_path(&mut self, entry: &Entry) -> Result<(), T::Fault>
+        requires { Fits self.old.state entry.now }
+        ensures { Puts T.sent entry.now self.old self.new result }
     {
-        if let Some(path) = path_of(entry) {
-            return self.write_shape(path);
-        }
-        self.pending
-            .append_spelling(self.form, self.state.drawing(), entry);
-        self.target.write_all(self.pending.bytes.as_slice())
+        let Some(path) = path_of(entry) else {
+            return self.put_other(entry);
+        };
+        self.pending.bytes.clear();
+        self.pending.append_prelude(self.state.drawing(), entry);
+        self.write_shape(path)?;
+        self.state.step(entry);
+        Ok(())
     }
 
-    /// Writes an entry that fits, as `put_ref` writes it.
+    /// Writes an entry that fits, and isn't an arc or polygon, as `put_ref` writes it.
     #[inline(never)]
     fn put_other(&mut self, entry: &Entry) -> Result<(), T::Fault>
-        requires { Fits self.old.state entry.now }
+        requires short { is_short entry.now ≡ true }
+        requires fits { Fits self.old.state entry.now }
         ensures { Puts T.sent entry.now self.old self.new result }
     {
         self.pending.bytes.clear();
         self.pending.append_prelude(self.state.drawing(), entry);
-        self.write_spelling(entry)?;
+        self.pending
+            .append_spelling(self.form, self.state.drawing(), entry);
+        self.target.write_all(self.pending.bytes.as_slice())?;
         self.state.step(entry);
         Ok(())
     }
@@ -210,6 +198,7 @@ impl<T: ByteSink + Drop> Writer<T> {
             } => self.put_rect(*filled, *from, *to, ink),
             Entry::Char { set, code, hand } => self.put_char(*set, *code, hand),
             Entry::Map { addr, grb } => self.put_map(*addr, *grb),
+            Entry::Arc { .. } | Entry::Poly { .. } => self.put_path(entry),
             _ => self.put_other(entry),
         }
     }

@@ -1,4 +1,4 @@
-use Rattle.nap_cli.proofs.Common.{Bool, Chooses, ChoosesJob, Err, ErrorKind, HasKind, HasMatchesOf, IsBudget, IsFault, List, None, Option, Row, SaysJob, Some, Text, action_name, ap, ap₂, arith, codes, command_line, false, fault_of, inl, inr, is_simple, is_simple_and_free, job_name, kind_of, most_budget, one_of, option_map, option_text, refl, subcommand_name_of, subcommand_of, subcommand_rows, subst, sym, true, ℕ, ◌<◌, ◌^◌, ◌∙◌, ◌≡◌, ◌≢◌, ◌≤◌, ◌⊎◌}
+use Rattle.nap_cli.proofs.Common.{Bool, ChoosesJob, Err, ErrorKind, HasKind, HasMatchesOf, IsBudget, IsFault, List, None, Option, Row, SaysJob, Some, Text, ap, ap₂, arith, codes, command_line, false, fault_of, inl, inr, is_simple, is_simple_and_free, job_name, kind_of, most_budget, option_map, option_text, refl, subcommand_name_of, subcommand_of, subcommand_rows, subst, sym, true, ℕ, ◌<◌, ◌^◌, ◌∙◌, ◌≡◌, ◌≢◌, ◌≤◌, ◌⊎◌}
 use Rattle.std.proofs.lemmas.Option.{none-some, same_Some, some_pair_parts}
 use Rattle.clap.proofs.OnLiterals.{clap_on_literals}
 use Rattle.clap.specs.declared.error.Error.{Error}
@@ -52,20 +52,12 @@ entered_none words m has named = sym (has line_is_simple).1 ∙ none_by_part (su
 -- what clap found is no job's
 pub nothing_chosen : (words : List Text) (name : Text) (rows : List Row) → subcommand_of command_line words ≡ Some (name, rows)
     → ((j : Job) → job_name j ≡ name → ChoosesJob rows j → ⊥) → (j : Job) → SaysJob words j → ⊥
-nothing_chosen words name rows entered none (Job.Page c) says =
-    let same = some_pair_parts (action_name c.action) name says.rows rows (sym says.entered ∙ entered) in
-    none (Job.Page c) same.0 (subst (λ (x : List Row). Chooses x c) same.1 says.chooses)
-nothing_chosen words name rows entered none (Job.Make stream) says =
-    let same = some_pair_parts (codes "make") name says.rows rows (sym says.entered ∙ entered) in
-    none (Job.Make stream) same.0 (subst (λ (x : List Row). one_of (codes "stream") x ≡ Some (option_text stream)) same.1 says.chooses)
-nothing_chosen words name rows entered none Job.Batch says =
-    let same = some_pair_parts (codes "batch") name says.rows rows (sym says.entered ∙ entered) in
-    none Job.Batch same.0 tt
+nothing_chosen words name rows entered none j says =
+    let same = some_pair_parts (job_name j) name says.rows rows (sym says.entered ∙ entered) in
+    none j same.0 (subst (λ (x : List Row). ChoosesJob x j) same.1 says.chooses)
 
 pub nothing_entered : (words : List Text) → subcommand_of command_line words ≡ None → (j : Job) → SaysJob words j → ⊥
-nothing_entered words entered (Job.Page c) says = none-some (action_name c.action, says.rows) (sym entered ∙ says.entered)
-nothing_entered words entered (Job.Make stream) says = none-some (codes "make", says.rows) (sym entered ∙ says.entered)
-nothing_entered words entered Job.Batch says = none-some (codes "batch", says.rows) (sym entered ∙ says.entered)
+nothing_entered words entered j says = none-some (job_name j, says.rows) (sym entered ∙ says.entered)
 
 -- a job, or none, with the options that clap found
 module _ (words : List Text) (m : ArgMatches) (name : Text) (rows : List Row) (has : HasMatchesOf command_line words m) (named : Some name ≡ subcommand_name_of m)
@@ -76,14 +68,10 @@ module _ (words : List Text) (m : ArgMatches) (name : Text) (rows : List Row) (h
   found : subcommand_of command_line words ≡ Some (name, rows)
   found = entered_by words m name rows has (sym named) (sym rowed)
 
-  made : (j : Job) → fault_of command_line words ≡ [] → job_name j ≡ name → ChoosesJob rows j → SaysJob words j
-  made (Job.Page c) right same chosen = record { right = right; rows = rows; entered = found ∙ ap (λ (t : Text). Some (t, rows)) (sym same); chooses = chosen }
-  made (Job.Make stream) right same chosen = record { right = right; rows = rows; entered = found ∙ ap (λ (t : Text). Some (t, rows)) (sym same); chooses = chosen }
-  made Job.Batch right same chosen = record { right = right; rows = rows; entered = found ∙ ap (λ (t : Text). Some (t, rows)) (sym same) }
-
   pub says_job : (r : Option Job) (j : Job) → fault_of command_line words ≡ [] → IsJob r → r ≡ Some j → SaysJob words j
   says_job None j right h is = absurd (none-some j is)
-  says_job (Some k) j right h is = subst (SaysJob words) (same_Some k j is) (made k right h.0 h.1)
+  says_job (Some k) j right h is =
+      subst (SaysJob words) (same_Some k j is) (record { right = right; rows = rows; entered = found ∙ ap (λ (t : Text). Some (t, rows)) (sym h.0); chooses = h.1 })
 
   pub says_nothing : (r : Option Job) → IsJob r → r ≡ None → (j : Job) → SaysJob words j → ⊥
   says_nothing None h is = nothing_chosen words name rows found h

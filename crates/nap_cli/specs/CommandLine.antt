@@ -94,32 +94,6 @@ pub record Chooses (rows : List Row) (c : Command) : Type 0 where
   pub budget : IsBudget number c.budget
   pub stream : ChoosesStream c.action rows c.stream
 
--- words that clap accepts and parses as this command
-pub record Says (words : List Text) (c : Command) : Type 0 where
-  pub right : fault_of command_line words ≡ []
-  pub rows : List Row
-  pub entered : subcommand_of command_line words ≡ Some (action_name c.action, rows)
-  pub chooses : Chooses rows c
-
--- words that clap accepts and parses as `batch`
-pub record SaysBatch (words : List Text) : Type 0 where
-  pub right : fault_of command_line words ≡ []
-  pub rows : List Row
-  pub entered : subcommand_of command_line words ≡ Some (codes "batch", rows)
-
--- words that clap accepts and parses as `make`, with `--stream` or without
-pub record SaysMake (words : List Text) (stream : Bool) : Type 0 where
-  pub right : fault_of command_line words ≡ []
-  pub rows : List Row
-  pub entered : subcommand_of command_line words ≡ Some (codes "make", rows)
-  pub chooses : one_of (codes "stream") rows ≡ Some (option_text stream)
-
--- words that ask for a command on one page, `make` or `batch`
-abbrev pub SaysJob : List Text → Job → Type 0
-SaysJob words (Job.Page c) = Says words c
-SaysJob words (Job.Make stream) = SaysMake words stream
-SaysJob words Job.Batch = SaysBatch words
-
 abbrev pub job_name : Job → Text
 job_name (Job.Page c) = action_name c.action
 job_name (Job.Make stream) = codes "make"
@@ -131,6 +105,13 @@ ChoosesJob rows (Job.Page c) = Chooses rows c
 ChoosesJob rows (Job.Make stream) = one_of (codes "stream") rows ≡ Some (option_text stream)
 ChoosesJob rows Job.Batch = Unit {0}
 
+-- words that clap accepts and parses as this job
+pub record SaysJob (words : List Text) (j : Job) : Type 0 where
+  pub right : fault_of command_line words ≡ []
+  pub rows : List Row
+  pub entered : subcommand_of command_line words ≡ Some (job_name j, rows)
+  pub chooses : ChoosesJob rows j
+
 -- what clap finds in words that ask for no command: this kind of error, or lack of memory
 abbrev pub IsFault : List Text → ErrorKind → Type 0
 IsFault words k =
@@ -140,6 +121,6 @@ IsFault words k =
 -- or they ask for none, nothing was read, and what clap found was printed or reported.
 abbrev pub AnswersWords : {I : Type 0} → inlet.Ghosts I → List Text → I → I → Devices → Devices → ℕ → Type 0
 AnswersWords i words start end before after status =
-    ((c : Command) × Says words c × Ran i c start end before after status)
-    ⊎ (((stream : Bool) × SaysMake words stream × Made stream before after status)
-    ⊎ ((SaysBatch words × Served before after status) ⊎ ((k : ErrorKind) × IsFault words k × Unread before after × Explains k (outputs_of before) (outputs_of after) status)))
+    ((c : Command) × SaysJob words (Job.Page c) × Ran i c start end before after status)
+    ⊎ (((stream : Bool) × SaysJob words (Job.Make stream) × Made stream before after status)
+    ⊎ ((SaysJob words Job.Batch × Served before after status) ⊎ ((k : ErrorKind) × IsFault words k × Unread before after × Explains k (outputs_of before) (outputs_of after) status)))

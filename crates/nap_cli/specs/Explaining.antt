@@ -66,20 +66,20 @@ outputs o e output errors = record {
 
 abbrev pub outputs_of : Devices → Outputs
 outputs_of d = record {
-  taken = d.taken;
-  sent = d.sent;
-  failed = d.output_failed;
-  write_failed = d.write_failed;
-  flushes = d.flushes;
+  taken = d.pipes.taken;
+  sent = d.pipes.sent;
+  failed = d.pipes.output_failed;
+  write_failed = d.pipes.write_failed;
+  flushes = d.pipes.flushes;
   reported = d.reported;
   errors_failed = d.errors_failed;
 }
 
 -- the input is unchanged
 pub record Unread (before after : Devices) : Type 0 where
-  pub left : after.left ≡ before.left
-  pub reads : after.reads ≡ before.reads
-  pub failed : after.input_failed ≡ before.input_failed
+  pub left : after.pipes.left ≡ before.pipes.left
+  pub reads : after.pipes.reads ≡ before.pipes.reads
+  pub failed : after.pipes.input_failed ≡ before.pipes.input_failed
 
 -- the output is unchanged
 pub record Unprinted (before after : Outputs) : Type 0 where

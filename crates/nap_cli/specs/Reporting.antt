@@ -17,14 +17,16 @@ Tells false false count notes ended e errors_failed status = (take (length e) no
 -- the devices at the start: an output that took these bytes, and notes that are empty
 abbrev pub devices_at_start : {I : Type 0} → inlet.Ghosts I → I → Option (List ℕ) → Devices
 devices_at_start i start taken = record {
-  left = i.left start;
-  reads = i.calls start;
-  input_failed = i.failed start;
-  taken = taken;
-  sent = false;
-  output_failed = false;
-  write_failed = false;
-  flushes = 0;
+  pipes = record {
+    left = i.left start;
+    reads = i.calls start;
+    input_failed = i.failed start;
+    taken = taken;
+    sent = false;
+    flushes = 0;
+    output_failed = false;
+    write_failed = false;
+  };
   reported = Some [];
   errors_failed = false;
 }
@@ -38,9 +40,9 @@ pub record AnswersBuffered {I : Type 0} (i : inlet.Ghosts I) (words : List (List
   pub ended : ℕ
   pub answers : AnswersWords i words start end before after ended
   pub rest : List ℕ
-  pub taken : after.taken ≡ append_known sent rest
+  pub taken : after.pipes.taken ≡ append_known sent rest
   pub notes : List ℕ
   pub noted : after.reported ≡ Some notes
   pub e : List ℕ
   pub appended : Appends reported reported_after e
-  pub tells : Tells after.output_failed after.errors_failed count notes ended e errors_failed status
+  pub tells : Tells after.pipes.output_failed after.errors_failed count notes ended e errors_failed status

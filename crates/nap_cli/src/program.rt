@@ -1,7 +1,7 @@
 //! The program on its command line.
-ghost use Rattle.std.specs.Prelude.{◌≡◌, ◌<◌, ◌^◌, false, map, string_bytes};
+ghost use Rattle.std.specs.Prelude.{map, string_bytes};
 ghost use Rattle.clap.specs.Values.{kind_of};
-ghost use Rattle.nap_command.specs.Devices.{devices};
+ghost use Rattle.nap_command.specs.Devices.{Ready, devices};
 ghost use Rattle.nap_cli.specs.Explaining.{Explains, outputs};
 ghost use Rattle.nap_cli.specs.CommandLine.{AnswersWords};
 
@@ -38,10 +38,7 @@ fn explain<O: Outlet, E: Outlet>(
     let mut output = output;
     match write_whole(&mut output, text.as_slice()) {
         Ok(()) => (output, 0),
-        Err(fault) => {
-            let status = report(fault, errors);
-            (output, status)
-        }
+        Err(fault) => (output, report(fault, errors)),
     }
 }
 
@@ -54,10 +51,9 @@ pub fn run<I: Inlet, O: Outlet + Drop, E: Outlet>(
     output: O,
     errors: &mut E,
 ) -> (O, u8)
-    requires calls { I.calls input.old < 2 ^ 63 }
-    requires works { O.failed output ≡ false }
-    ensures { let seen = devices I.Inlet O.Outlet E.Outlet in
-        AnswersWords I.Inlet (map string_bytes words.now) input.old input.new (seen input.old output errors.old) (seen input.new result.0 errors.new) result.1 }
+    requires { Ready I.Inlet O.Outlet input.old output }
+    ensures { AnswersWords I.Inlet (map string_bytes words.now) input.old input.new (devices I.Inlet O.Outlet E.Outlet input.old output errors.old)
+        (devices I.Inlet O.Outlet E.Outlet input.new result.0 errors.new) result.1 }
 {
     match parse(alloc, words) {
         Ok(Job::Page(command)) => execute(alloc, &command, input, output, errors),

@@ -31,7 +31,7 @@ const BATCH: &str = "batch";
 
 /// The version of the program, which is that of the file VERSION at the top, and the form of the canonical streams that it
 /// prints.
-const VERSION: &str = "0.4.3, canonical form 2";
+const VERSION: &str = "0.4.4, canonical form 2";
 
 const USAGE: &str = "naplps COMMAND [OPTIONS] < PAGE";
 
@@ -282,11 +282,9 @@ fn job_named(name: &str, options: &ArgMatches<'_>) -> Option<Job>
         return Some(Job::Batch);
     }
     if name == MAKE {
-        let stream = stream_chosen(options)?;
-        return Some(Job::Make(stream));
+        return Some(Job::Make(stream_chosen(options)?));
     }
-    let command = command_named(name, options)?;
-    Some(Job::Page(command))
+    Some(Job::Page(command_named(name, options)?))
 }
 
 /// Returns the command with this name and these options, which clap has checked.

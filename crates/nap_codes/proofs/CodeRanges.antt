@@ -1,4 +1,4 @@
-use Rattle.nap_codes.proofs.Common.{Bool, Code, CodeRanges, CodeSet, CodeSets, IfSome, IsCodeInRange, IsGraphic, List, OneByteOpcode, OneByteOperand, Row, Some, Spells, arith, complete, control0_rows, control1_rows, false, front, length, length-take-le, non_pdi_code, number_rows, refl, row_of, set_at, sym, take, true, ℕ, ◌<◌, ◌∙◌, ◌≡◌}
+use Rattle.nap_codes.proofs.Common.{Bool, Code, CodeRanges, CodeSet, CodeSets, IfSome, IsCodeInRange, IsGraphic, List, OneByteOpcode, OneByteOperand, Opcode, Row, Some, Spells, arith, complete, control0_rows, control1_rows, false, front, length, length-take-le, non_pdi_code, number_rows, refl, row_of, set_at, sym, take, true, ℕ, ◌<◌, ◌∙◌, ◌≡◌}
 use Rattle.nap_codes.specs.declared.control.Row.TheVariants.{Whole}
 use Rattle.nap_codes.specs.Spelling as spelling
 use Rattle.nap_codes.proofs.RowLemmas.{row_found}
@@ -39,10 +39,10 @@ unfolding non_pdi_code
 plain_code_is_plain CodeSet.Pdi byte range = tt
 plain_code_is_plain _ byte range = (range, refl)
 
--- The parameters of a code that is spelled are in range, and a code of the PDI set has one byte.
+-- The parameters of a code that is spelled are in range, and a code of the PDI set, which is in GL, has one byte.
 data IsSound (sets : CodeSets) (xs : List ℕ) (code : Code) (after : CodeSets) : Type 0 where
   plain : IsPlain code → IsSound sets xs code after
-  pdi : IsCodeInRange code → length xs ≡ 1 → after ≡ sets → IsSound sets xs code after
+  pdi : IsCodeInRange code → length xs ≡ 1 → after ≡ sets → set_at sets sets.gl ≡ CodeSet.Pdi → IsSound sets xs code after
 
 spelled_is_sound : (sets : CodeSets) (xs : List ℕ) (code : Code) (after : CodeSets) → Spells sets xs code after →
     IsSound sets xs code after
@@ -60,20 +60,20 @@ spelled_is_sound sets _ _ _ (spelling.designation {intermediate = intermediate} 
 spelled_is_sound sets _ _ _ (spelling.spaced_designation {intermediate = intermediate} {number = number} n s) =
     plain (number_below intermediate number n, refl)
 spelled_is_sound sets _ _ _ (spelling.in_gl {byte = byte} range e) = plain (rw e at (plain_code_is_plain (set_at sets sets.gl) byte range))
-spelled_is_sound sets _ _ _ (spelling.opcode gl row e) = pdi e refl refl
-spelled_is_sound sets _ _ _ (spelling.operand gl least below) = pdi (omega arith) refl refl
+spelled_is_sound sets _ _ _ (spelling.opcode gl row e) = pdi e refl refl gl
+spelled_is_sound sets _ _ _ (spelling.operand gl least below) = pdi (omega arith) refl refl gl
 spelled_is_sound sets _ _ _ (spelling.single_shift2 {byte = byte} range e) = plain (rw e at (plain_code_is_plain sets.g2 byte range))
 spelled_is_sound sets _ _ _ (spelling.single_shift3 {byte = byte} range e) = plain (rw e at (plain_code_is_plain sets.g3 byte range))
 spelled_is_sound sets _ _ _ _ = plain (tt, refl)
 
 sound_range : {sets : CodeSets} {xs : List ℕ} {code : Code} {after : CodeSets} → IsSound sets xs code after → IsCodeInRange code
 sound_range (plain is) = is.0
-sound_range (pdi range one same) = range
+sound_range (pdi range one same gl) = range
 
 sound_one : {sets : CodeSets} {xs : List ℕ} {code : Code} {after : CodeSets} → IsSound sets xs code after → is_pdi code ≡ true →
-    (length xs ≡ 1) × (after ≡ sets)
-sound_one (plain is) e = let other = is.1 in let bad : ⊥ = cc in absurd bad
-sound_one (pdi range one same) e = (one, same)
+    (length xs ≡ 1) × (after ≡ sets) × (set_at sets sets.gl ≡ CodeSet.Pdi)
+sound_one (plain is) e = let other = is.1 in cc
+sound_one (pdi range one same gl) e = (one, same, gl)
 
 -- the parameters of a code at the front are in range
 front_is_sound : (sets : CodeSets) (xs : List ℕ) (code : Code) (n : ℕ) (after : CodeSets) → front sets xs ≡ complete code n after →
@@ -82,16 +82,21 @@ front_is_sound sets xs code n after e =
     spelled_is_sound sets (take n xs) code after ((code_is_spelled sets xs code n after).0 e).1
 
 one_byte : (sets : CodeSets) (xs : List ℕ) (code : Code) (n : ℕ) (after : CodeSets) → is_pdi code ≡ true →
-    front sets xs ≡ complete code n after → (n ≡ 1) × (after ≡ sets)
+    front sets xs ≡ complete code n after → (n ≡ 1) × (after ≡ sets) × (set_at sets sets.gl ≡ CodeSet.Pdi)
 one_byte sets xs code n after is e =
     let one = sound_one (front_is_sound sets xs code n after e) is in
-    (sym (length-take-le n xs (code_length sets xs code n after e).1) ∙ one.0, one.1)
+    (sym (length-take-le n xs (code_length sets xs code n after e).1) ∙ one.0, one.1, one.2)
 
 pub code_ranges : CodeRanges
 code_ranges sets xs code n after e = sound_range (front_is_sound sets xs code n after e)
 
 pub one_byte_opcode : OneByteOpcode
-one_byte_opcode sets xs op n after e = one_byte sets xs (Code.Op op) n after refl e
+one_byte_opcode sets xs op n after e = let one = one_byte sets xs (Code.Op op) n after refl e in (one.0, one.1)
 
 pub one_byte_operand : OneByteOperand
-one_byte_operand sets xs word n after e = one_byte sets xs (Code.Operand word) n after refl e
+one_byte_operand sets xs word n after e = let one = one_byte sets xs (Code.Operand word) n after refl e in (one.0, one.1)
+
+-- An opcode is read while the PDI set is in GL.
+pub opcode_in_gl : (sets : CodeSets) (xs : List ℕ) (op : Opcode) (n : ℕ) (after : CodeSets) → front sets xs ≡ complete (Code.Op op) n after →
+    set_at sets sets.gl ≡ CodeSet.Pdi
+opcode_in_gl sets xs op n after e = (one_byte sets xs (Code.Op op) n after refl e).2

@@ -27,14 +27,12 @@ Opens-cond false p q = q
 further_most : (r : Front) → size (one_byte_later r) ≤ suc (size r)
 unfolding one_byte_later
 further_most unfinished = omega arith
-further_most (complete code n after) = omega arith
-further_most (refused fault i) = omega arith
+further_most _ = omega arith
 
 further_size : (r : Front) → r ≢ unfinished → size (one_byte_later r) ≡ suc (size r)
 unfolding one_byte_later
 further_size unfinished some = absurd (some refl)
-further_size (complete code n after) some = refl
-further_size (refused fault i) some = refl
+further_size _ some = refl
 
 not_further : {r : Front} → one_byte_later r ≢ unfinished → r ≢ unfinished
 unfolding one_byte_later
@@ -42,22 +40,19 @@ not_further some none = some (ap one_byte_later none)
 
 -- the properties of a function that decides by a first byte or by the bytes after it
 opened_stays : (f : List ℕ → Front) → Opens f → (xs ys : List ℕ) → f xs ≢ unfinished → f (xs ++ ys) ≡ f xs
-opened_stays _ (ends code after) xs ys some = refl
-opened_stays _ (fails fault) xs ys some = refl
 opened_stays _ (continues f steady) xs ys some = ap one_byte_later (steady.stays xs ys (not_further some))
+opened_stays _ _ xs ys some = refl
 
 opened_within : (f : List ℕ → Front) → Opens f → (xs : List ℕ) → size (f xs) ≤ suc (length xs)
-opened_within _ (ends code after) xs = omega arith
-opened_within _ (fails fault) xs = omega arith
 opened_within _ (continues f steady) xs = omega (arith, further_most (f xs), steady.within xs)
+opened_within _ _ xs = omega arith
 
 opened_taken : (f : List ℕ → Front) → Opens f → (xs : List ℕ) → f xs ≢ unfinished →
     (m : ℕ) × (size (f xs) ≡ suc m) × (f (take m xs) ≡ f xs)
-opened_taken _ (ends code after) xs some = (0, refl, refl)
-opened_taken _ (fails fault) xs some = (0, refl, refl)
 opened_taken _ (continues f steady) xs some =
     let inner = not_further some in
     (size (f xs), further_size (f xs) inner, ap one_byte_later (steady.taken xs inner))
+opened_taken _ _ xs some = (0, refl, refl)
 
 module _ (f : List ℕ → Front) (empty : f [] ≡ unfinished) (opens : (x : ℕ) → Opens (λ xs. f (x ∷ xs))) where
   steady_stays : (xs ys : List ℕ) → f xs ≢ unfinished → f (xs ++ ys) ≡ f xs
@@ -80,8 +75,7 @@ module _ (f : List ℕ → Front) (empty : f [] ≡ unfinished) (opens : (x : �
 
 decided : (r : Front) → (r ≢ unfinished → ⊥) → r ≡ unfinished
 decided unfinished none = refl
-decided (complete code n after) none = absurd (none (λ e. cc))
-decided (refused fault i) none = absurd (none (λ e. cc))
+decided _ none = absurd (none (λ e. cc))
 
 module _ (f : List ℕ → Front) (steady : Steady f) where
   -- An answer to a prefix is the answer to the list.

@@ -1,7 +1,7 @@
 use Rattle.nap_codes.proofs.Common.{Argument, ByteOutcome, CodeSets, Front, HalfRead, IsHalfRead, IsLastOutcome, IsOutcomeBy, IsOutcomeOf, LexerState, None, Some, Step, Steps, StepsBy, [], ap, append-nil, argument_front, argument_of, arith, column_front, complete, control0_front, control0_rows, control1_front, control1_rows, control_of, designation_front, escape_front, final_front, front, gl_front, half_read_after, half_read_bytes, length, length-append, more_front, ne_eqb, non_pdi_code, one_byte_later, position_front, refl, refused, rest_front, row_of, set_at, single_shift_front, subst, sym, unfinished, ℕ, ◌<◌, ◌∙◌, ◌∷◌, ◌≡◌, ◌≢◌, ◌≤◌}
 use Rattle.nap_codes.specs.declared.control.Row.TheVariants.{More}
 use Rattle.nap_codes.specs.declared.lexer.HalfRead.TheVariants.{Nothing, Escape, Control, Designation}
-use Rattle.nap_codes.proofs.TableLemmas.{graphic_test, IsLongControl, long_control, shift2, escape, position, shift3, control_of-argument_of}
+use Rattle.nap_codes.proofs.TableLemmas.{graphic_test, IsLongControl, long_control, shift2, control_of-argument_of}
 use Rattle.nap_codes.proofs.FrontBegins.{further, further-unfinished, further-complete, further-refused, front_of_half}
 
 -- The effect of a byte on an incomplete code.
@@ -15,9 +15,7 @@ first_led : (sets : CodeSets) (byte : ℕ) (more : HalfRead) → IsLongControl b
     IsOutcomeBy (one_byte_later (more_front sets byte [])) Nothing byte (ByteOutcome.More more)
 unfolding one_byte_later more_front escape_front position_front single_shift_front half_read_after
 first_led sets _ more shift2 is = (more, refl, ap half_read_bytes is, subst IsHalfRead (sym is) tt)
-first_led sets _ more escape is = (more, refl, ap half_read_bytes is, subst IsHalfRead (sym is) tt)
-first_led sets _ more position is = (more, refl, ap half_read_bytes is, subst IsHalfRead (sym is) tt)
-first_led sets _ more shift3 is = (more, refl, ap half_read_bytes is, subst IsHalfRead (sym is) tt)
+first_led sets _ more _ is = (more, refl, ap half_read_bytes is, subst IsHalfRead (sym is) tt)
 
 pub first_more : (sets : CodeSets) (byte : ℕ) (more : HalfRead) → row_of control0_rows byte ≡ Some More → more ≡ half_read_after byte →
     IsOutcomeOf sets Nothing byte (ByteOutcome.More more)

@@ -4,7 +4,7 @@ use Rattle.nap_codes.proofs.FrontLaws.{code_stays, refused_stays, code_length}
 -- The steps of a lexer give the codes of a list.
 
 -- a code before the codes read after it
-abbrev with_code : Code → LexResult → LexResult
+abbrev pub with_code : Code → LexResult → LexResult
 with_code code rest = record rest { codes = code ∷ rest.codes }
 
 -- More steps than there are bytes change nothing.
@@ -19,35 +19,33 @@ lex_result_within-spare (suc f) (suc g) sets bytes hf hg =
     at : (r : Front) → front sets bytes ≡ r →
         ((after : CodeSets) (rest : List ℕ) → length rest < f → length rest < g → lex_result_within f after rest ≡ lex_result_within g after rest) →
         lex_result_by (lex_result_within f) sets bytes r ≡ lex_result_by (lex_result_within g) sets bytes r
-    at unfinished e ih = refl
-    at (refused fault i) e ih = refl
     at (complete code n after) e ih =
         let some = code_length sets bytes code n after e in
         let less : length (drop n bytes) < length bytes = simp length-drop (omega arith) in
         ap (with_code code) (ih after (drop n bytes) (omega arith) (omega arith))
+    at _ e ih = refl
 
 -- the codes of a list, by its front
-lex_result-front : (sets : CodeSets) (bytes : List ℕ) → lex_result sets bytes ≡ lex_result_by lex_result sets bytes (front sets bytes)
+pub lex_result-front : (sets : CodeSets) (bytes : List ℕ) → lex_result sets bytes ≡ lex_result_by lex_result sets bytes (front sets bytes)
 unfolding lex_result lex_result_within
 lex_result-front sets bytes = at (front sets bytes) refl
   where
     at : (r : Front) → front sets bytes ≡ r →
         lex_result_by (lex_result_within (length bytes)) sets bytes r ≡ lex_result_by lex_result sets bytes r
-    at unfinished e = refl
-    at (refused fault i) e = refl
     at (complete code n after) e =
         let some = code_length sets bytes code n after e in
         let less : length (drop n bytes) < length bytes = simp length-drop (omega arith) in
         ap (with_code code) (lex_result_within-spare (length bytes) (suc (length (drop n bytes))) after (drop n bytes) less (omega arith))
+    at _ e = refl
 
 -- the front that a step tells
 module _ (old new : LexerState) (byte : ℕ) where
-  on_more : (r : Front) → StepsBy r old byte Step.More new →
+  pub on_more : (r : Front) → StepsBy r old byte Step.More new →
       (r ≡ unfinished) × (new ≡ record { sets = old.sets; half = old.half ++ byte ∷ [] })
   on_more unfinished e = (refl, e.1)
   on_more _ e = cc
 
-  on_code : (r : Front) (code : Code) → StepsBy r old byte (Step.Code code) new →
+  pub on_code : (r : Front) (code : Code) → StepsBy r old byte (Step.Code code) new →
       (r ≡ complete code (length (old.half ++ byte ∷ [])) new.sets) × (new.half ≡ [])
   on_code (complete c n after) code e =
       let same : c ≡ code = cc in
@@ -55,25 +53,25 @@ module _ (old new : LexerState) (byte : ℕ) where
       (rw (same, e.1, sets) refl, ap (λ s. s.half) e.2)
   on_code _ code e = cc
 
-  on_fault : (r : Front) (fault : CodeFault) → StepsBy r old byte (Step.Fault fault) new →
+  pub on_fault : (r : Front) (fault : CodeFault) → StepsBy r old byte (Step.Fault fault) new →
       (r ≡ refused fault (length old.half)) × (new ≡ old)
   on_fault (refused f i) fault e =
       let same : f ≡ fault = cc in
       (rw (same, e.1) refl, e.2)
   on_fault _ fault e = cc
 
-front-nothing : (sets : CodeSets) (bytes : List ℕ) → bytes ≡ [] → front sets bytes ≡ unfinished
+pub front-nothing : (sets : CodeSets) (bytes : List ℕ) → bytes ≡ [] → front sets bytes ≡ unfinished
 unfolding front
 front-nothing sets bytes e = rw e refl
 
 -- the codes of a list that begins with the bytes of a code
-lex_result-code : (sets : CodeSets) (read bytes : List ℕ) (code : Code) (after : CodeSets) → front sets read ≡ complete code (length read) after →
+pub lex_result-code : (sets : CodeSets) (read bytes : List ℕ) (code : Code) (after : CodeSets) → front sets read ≡ complete code (length read) after →
     lex_result sets (read ++ bytes) ≡ with_code code (lex_result after bytes)
 lex_result-code sets read bytes code after e =
     rw (lex_result-front sets (read ++ bytes), code_stays sets read bytes code (length read) after e, drop-append_seam read bytes) refl
 
 -- the codes of a list that begins with the bytes up to a refused one
-lex_result-fault : (sets : CodeSets) (half : List ℕ) (byte : ℕ) (bytes : List ℕ) (fault : CodeFault) →
+pub lex_result-fault : (sets : CodeSets) (half : List ℕ) (byte : ℕ) (bytes : List ℕ) (fault : CodeFault) →
     front sets (half ++ byte ∷ []) ≡ refused fault (length half) →
     lex_result sets (half ++ byte ∷ bytes) ≡ record { codes = []; fault = Some fault; state = record { sets = sets; half = half } }
 lex_result-fault sets half byte bytes fault e =

@@ -14,6 +14,6 @@ pub mod SpellingLaws
 pub mod CodeRanges
 pub mod CharacterLemmas
 pub mod OpcodeLemmas
-mod LexedLemmas
+pub mod LexedLemmas
 pub mod Rows
 pub mod PublicLaws

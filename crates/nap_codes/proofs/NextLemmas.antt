@@ -1,4 +1,4 @@
-use Rattle.nap_codes.proofs.Common.{Code, CodeSets, Front, IsNext, IsNextAfterEscape, IsNextOf, LexerState, List, NextCode, Spells, [], ap₂, complete, control0_front, control0_rows, escape_front, front, inl, inr, more_front, next_of, next_of_code, one_byte_later, refl, refused, row_of, sets_after, sym, take, unfinished, ℕ, ◌∙◌, ◌∷◌, ◌≡◌, ◌⊎◌}
+use Rattle.nap_codes.proofs.Common.{Code, CodeSets, Front, IsNext, IsNextAfterEscape, IsNextOf, LexerState, List, NextCode, Spells, [], ap₂, complete, control0_front, control0_rows, escape_front, front, inl, inr, more_front, next_of, next_of_code, one_byte_later, refl, row_of, sets_after, sym, take, ℕ, ◌∙◌, ◌∷◌, ◌≡◌, ◌⊎◌}
 use Rattle.nap_codes.specs.Spelling as spelling
 use Rattle.nap_codes.proofs.SpellingLaws.{code_is_spelled}
 
@@ -23,10 +23,9 @@ kept next n code sets after adds is (inr same) = same
 -- a code that adds something, and what isn't consumed, change no code set
 front_keeps : (sets : CodeSets) (bytes : List ℕ) (next : NextCode) (r : Front) → ((n : ℕ) → next ≡ NextCode.Nothing n → ⊥) → front sets bytes ≡ r →
     next ≡ next_of r → sets_after sets r ≡ sets
-front_keeps sets bytes next unfinished adds is e = refl
-front_keeps sets bytes next (refused fault i) adds is e = refl
 front_keeps sets bytes next (complete code n after) adds is e =
     kept next n code sets after adds e (spelled_keeps sets (take n bytes) code n after ((code_is_spelled sets bytes code n after).0 is).1)
+front_keeps sets bytes next _ adds is e = refl
 
 pub next_keeps : (sets after : CodeSets) (bytes : List ℕ) (next : NextCode) → ((n : ℕ) → next ≡ NextCode.Nothing n → ⊥) →
     IsNextOf (front sets bytes) sets next after → after ≡ sets

@@ -1,4 +1,4 @@
-use Rattle.nap_codes.proofs.Common.{Bool, Code, CodeFault, CodeIsSpelled, CodeSets, Front, IsBadByte, IsSpelling, List, RefusedIsSpelled, Spells, SpellsRefused, UnfinishedIsPrefix, [], accepted, ap, append-nil, arith, bad_byte_fault, complete, escape_fault, escaped_fault, false, front, get_or, inl, inr, left_out_control0, left_out_control1, left_out_of_pdi, length, length-append, length-take-le, nat_tests, place_fault, refl, refusal, refused, shifted2, shifted3, subst, suc, sym, take, take-append_seam, take_all, true, unfinished, ℕ, ◌++◌, ◌<◌, ◌∙◌, ◌∷◌, ◌≡◌, ◌≢◌, ◌⊎◌}
+use Rattle.nap_codes.proofs.Common.{Bool, Code, CodeFault, CodeIsSpelled, CodeSets, Front, IsBadByte, IsSpelling, List, RefusedIsSpelled, Spells, SpellsRefused, UnfinishedIsPrefix, [], accepted, ap, append-nil, arith, bad_byte_fault, complete, escape_fault, escaped_fault, false, front, get_or, inl, inr, left_out_control0, length, length-append, length-take-le, nat_tests, place_fault, refl, refusal, refused, subst, suc, sym, take, take-append_seam, take_all, true, unfinished, ℕ, ◌++◌, ◌<◌, ◌∙◌, ◌∷◌, ◌≡◌, ◌≢◌, ◌⊎◌}
 use Rattle.nap_codes.specs.declared.code.CodeFault.TheVariants.{ShiftedCode, LeftOut}
 use Rattle.nap_codes.proofs.FrontIsSpelled.{front-Answers, Answers-complete, Answers-unfinished, Answers-refused}
 use Rattle.nap_codes.proofs.FrontIsSteady.{front-Steady}
@@ -47,10 +47,7 @@ bad_byte_fault-is_stray before byte = grind (arith, nat_tests)
 SpellsRefused-no_stray : (sets : CodeSets) (xs : List ℕ) (fault : CodeFault) → SpellsRefused sets xs fault → is_stray fault ≡ false
 unfolding is_stray
 SpellsRefused-no_stray sets _ _ (left_out_control0 row) = refl
-SpellsRefused-no_stray sets _ _ (left_out_control1 row) = refl
-SpellsRefused-no_stray sets _ _ (left_out_of_pdi pdi row e) = refl
-SpellsRefused-no_stray sets _ _ (shifted2 range pdi) = refl
-SpellsRefused-no_stray sets _ _ (shifted3 range pdi) = refl
+SpellsRefused-no_stray sets _ _ _ = refl
 
 -- If a byte is refused as one that continues no spelling, none continues with it.
 no_spelling_continues : (sets : CodeSets) (xs : List ℕ) (fault : CodeFault) (i : ℕ) → front sets xs ≡ refused fault i → is_stray fault ≡ true →

@@ -119,5 +119,5 @@ pub option_pair-rows : (number : Option ℕ) (set : Option CodeSet) (named : ℕ
 option_pair-rows (Some n) (Some s) named e =
     let is : (n, s) ≡ named = cc in
     (ap (λ pair. Some pair.0) is, ap (λ pair. Some pair.1) is)
-option_pair-rows (Some n) None named e = let bad : ⊥ = cc in absurd bad
-option_pair-rows None set named e = let bad : ⊥ = cc in absurd bad
+option_pair-rows (Some n) None named e = cc
+option_pair-rows None set named e = cc

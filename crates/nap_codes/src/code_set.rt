@@ -1,25 +1,23 @@
-//! The code sets, the registers G0 to G3, and the designations that put sets into them (PROFILE.md, Code sets and
-//! escapes).
-
+//! Code sets, the registers G0 to G3, and designations of sets to them (PROFILE.md, Code sets and escapes).
 ghost use Rattle.std.specs.Prelude.{◌≡◌};
 ghost use Rattle.nap_codes.specs.CodeSets.{after_control0, char_set_of, set_at, start_sets, with_set};
 ghost use Rattle.nap_codes.specs.Tables.{designation};
 
-/// A set of 96 codes that a designation can put into a register (PROFILE.md, Designations).
+/// A set of 96 codes (PROFILE.md, Designations). Those of characters come first, so that one comparison tells them.
 #[derive(Clone, Copy, PartialEq, Eq, Debug, Drop)]
 pub enum CodeSet {
     /// The primary characters: letters, digits and signs.
     Primary,
     /// The supplementary characters: accents and further signs.
     Supplementary,
-    /// The picture description instructions: opcodes and the words of their operands.
-    Pdi,
     /// The mosaic characters.
     Mosaic,
-    /// Calls of macros.
-    Macros,
     /// The dynamically redefinable characters (DRCS).
     Drcs,
+    /// The picture description instructions: opcodes and the words of their operands.
+    Pdi,
+    /// Calls of macros.
+    Macros,
 }
 
 /// One of the four registers for code sets (PROFILE.md, Code sets and escapes).
@@ -121,8 +119,7 @@ impl CodeSets {
     }
 }
 
-/// Returns what the escape sequence with this intermediate byte and this final byte designates: the number of a
-/// register, 0 to 3, and the set that goes into it. `None` if it designates nothing (PROFILE.md, Designations).
+/// Returns what an escape sequence designates: a register's number, 0 to 3, and its set (PROFILE.md, Designations).
 #[tactic(auto, unfolding(crate::specs::Tables::designation, crate::specs::Tables::row_of, crate::specs::Tables::number_rows, crate::specs::Tables::set_rows))]
 pub fn designate(intermediate: u8, last: u8) -> Option<(u8, CodeSet)>
     ensures { result ≡ designation intermediate last }

@@ -1,5 +1,4 @@
 //! The controls of the C0 and C1 sets, and the arguments of those that take one.
-
 ghost use Rattle.std.specs.Prelude.{◌≡◌};
 ghost use Rattle.nap_codes.specs.Front.{argument_of, with_argument};
 ghost use Rattle.nap_codes.specs.Tables.{control0_rows, control1_rows, format_effector, is_fill, row_of};
@@ -113,13 +112,9 @@ impl Argument {
         ensures { result ≡ with_argument self byte }
     {
         match (self, byte) {
-            (Argument::Macro, 0x20..=0x7F) => Some(Code::DefMacro {
+            (Argument::Macro | Argument::ShownMacro, 0x20..=0x7F) => Some(Code::DefMacro {
                 name: byte,
-                show: false,
-            }),
-            (Argument::ShownMacro, 0x20..=0x7F) => Some(Code::DefMacro {
-                name: byte,
-                show: true,
+                show: self == Argument::ShownMacro,
             }),
             (Argument::Glyph, 0x20..=0x7F) => Some(Code::DefGlyph(byte)),
             (Argument::Mask, 0x41) => Some(Code::DefMask(Mask::A)),
@@ -157,8 +152,7 @@ pub fn control0(byte: u8) -> Option<Row>
     Some(row)
 }
 
-/// Returns the format effector that a single byte is, or `None`. APS isn't one, since it has two further bytes
-/// (PROFILE.md, The C0 set).
+/// Returns the format effector that a single byte is (PROFILE.md, The C0 set). APS isn't one: it has two further bytes.
 #[inline]
 pub fn format_effector(byte: u8) -> Option<TextStep>
     ensures { result ≡ format_effector byte }

@@ -1,4 +1,5 @@
 //! Laws about the definitions of this crate. Each is the contract of a function that does nothing.
+#![tactic(auto, using(crate::proofs::PublicLaws::laws))]
 
 ghost use Rattle.nap_codes.specs.Laws.{CodeRanges, EarlierUnfinished, FormatEffectorFront, FormatEffectorKnown, OneByteOpcode, OneByteOperand, RefusedIndex, RefusedStays, RefusedByItsBytes, UnfinishedBefore, CodeLength, CodeStays, CodeByItsBytes};
 ghost use Rattle.nap_codes.specs.LexResults.{StepsGiveLexResult};

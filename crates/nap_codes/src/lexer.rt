@@ -1,11 +1,10 @@
 //! The lexer, which cuts a stream into codes.
-
 ghost use Rattle.std.specs.Prelude.{ℕ, List, ◌≡◌, ◌↔◌, ◌≤◌, ◌<◌, [], ◌∷◌, Some, IfSome, IsTrue};
 ghost use Rattle.nap_codes.specs.CodeSets.{set_at, start_sets};
 ghost use Rattle.nap_codes.specs.Front.{argument_front, column_front, byte_fault, final_front, front, gl_front, non_pdi_code, single_shift_front, unfinished, complete};
-ghost use Rattle.nap_codes.specs.HalfReadCodes.{IsLastOutcome, half_read_after, IsHalfRead, IsOutcomeOf};
+ghost use Rattle.nap_codes.specs.HalfReadCodes.{IsLastOutcome, half_read_after, IsHalfRead, IsOutcomeOf, half_read_bytes};
 ghost use Rattle.nap_codes.specs.Laws.{IsGraphic};
-ghost use Rattle.nap_codes.specs.Lexer.{IsCall, IsCharacter, IsFormatEffector, IsOpcode, IsShift, Steps};
+ghost use Rattle.nap_codes.specs.Lexer.{IsCall, IsCharacter, IsFormatEffector, IsOpcode, IsShift, Steps, LexerState};
 ghost use Rattle.nap_codes.specs.NextCodes.{IsNext, IsNextAfterEscape};
 ghost use Rattle.nap_codes.specs.declared.code.Code.TheVariants as codes;
 
@@ -17,8 +16,7 @@ use crate::opcode::{Opcode, opcode_of};
 use nap_values::Word;
 use std::marker::Model;
 
-/// Cuts a stream into codes, one byte at a time. Its state is the code sets and the bytes of an incomplete code.
-/// Contracts show it as a `LexerState`.
+/// Cuts a stream into codes, one byte at a time: the code sets and the bytes of an incomplete code (`LexerState`).
 #[derive(Clone, Drop)]
 pub struct Lexer {
     sets: CodeSets,
@@ -28,13 +26,7 @@ pub struct Lexer {
 }
 
 impl Model for Lexer {
-    ghost use Rattle.nap_codes.specs.Lexer.{LexerState};
-
     ghost Value = { LexerState };
-
-    ghost use Rattle.std.specs.Prelude.{◌≡◌};
-    ghost use Rattle.nap_codes.specs.CodeSets.{set_at};
-    ghost use Rattle.nap_codes.specs.HalfReadCodes.{half_read_bytes, IsHalfRead};
 
     ghost view = { λ l. record { sets = l.sets; half = half_read_bytes l.half } };
 
@@ -125,19 +117,7 @@ impl Lexer {
         self.in_gl.char_set()
     }
 
-    /// Returns the set in GL, if no code is incomplete.
-    #[inline]
-    pub fn set_in_gl(&self) -> Option<CodeSet>
-        ensures { (set : CodeSet) → (result ≡ Some set) ↔ (self.now.half ≡ []) × (set_at self.now.sets self.now.sets.gl ≡ set) }
-    {
-        if !self.at_rest() {
-            return None;
-        }
-        Some(self.in_gl)
-    }
-
-    /// Returns the opcode that this byte is in the current state: if no code is incomplete, the PDI set is in GL, and
-    /// the opcode isn't left out.
+    /// Returns the opcode that this byte is in the current state, where no code is incomplete, unless it is left out.
     #[inline]
     pub fn opcode(&self, byte: u8) -> Option<Opcode>
         ensures is { (op : Opcode) → (result ≡ Some op) ↔ IsOpcode self.now byte op }
@@ -156,8 +136,7 @@ impl Lexer {
         }
     }
 
-    /// Whether this byte calls the macro that it names in the current state: no code is incomplete, and the macro set is
-    /// in GL.
+    /// Whether this byte calls the macro that it names in the current state, where no code is incomplete.
     #[inline]
     pub fn is_call(&self, byte: u8) -> bool
         ensures is { IsTrue result ↔ IsCall self.now byte }
@@ -166,8 +145,7 @@ impl Lexer {
         self.at_rest() && byte >= 0x20 && byte < 0x80 && self.in_gl == CodeSet::Macros
     }
 
-    /// Returns the format effector that this byte is in the current state, if no code is incomplete. APS isn't one,
-    /// since it has two further bytes.
+    /// Returns the format effector of one byte that this byte is in the current state, where no code is incomplete.
     #[inline]
     pub fn format_effector(&self, byte: u8) -> Option<TextStep>
         ensures is { (step : TextStep) → (result ≡ Some step) ↔ IsFormatEffector self.now byte step }
@@ -211,11 +189,10 @@ impl Lexer {
         }
     }
 
-    /// Consumes ESC, as `step` does.
+    /// Consumes ESC, as `step` does, if no code is incomplete.
     #[inline]
     pub fn escape(&mut self)
-        requires { self.old.half ≡ [] }
-        ensures { Steps self.old 0x1B Step.More self.new }
+        ensures { self.old.half ≡ [] → Steps self.old 0x1B Step.More self.new }
     {
         self.half = HalfRead::Escape;
     }
@@ -236,8 +213,7 @@ impl Lexer {
         next
     }
 
-    /// Consumes the code at the beginning of the bytes if it begins with a control of the C0 set and is complete, and
-    /// no code is incomplete before it.
+    /// Consumes a complete code that begins with a control of the C0 set, if no code is incomplete before it.
     #[inline(always)]
     pub fn next(&mut self, bytes: &[u8]) -> NextCode
         ensures { IsNext self.old bytes.now result self.new }
@@ -300,7 +276,10 @@ fn next_byte(sets: CodeSets, half: HalfRead, byte: u8) -> ByteOutcome
         HalfRead::Nothing => first_byte(sets, byte),
         HalfRead::Escape => escaped_byte(sets, byte),
         HalfRead::Control(argument) => argument_byte(sets, argument, byte),
-        HalfRead::Designation(intermediate) => designation_byte(sets, intermediate, byte),
+        HalfRead::Designation(intermediate) if byte == 0x20 => {
+            ByteOutcome::More(HalfRead::SpacedDesignation(intermediate))
+        }
+        HalfRead::Designation(intermediate) => final_byte(sets, intermediate, byte),
         HalfRead::SpacedDesignation(intermediate) => final_byte(sets, intermediate, byte),
         HalfRead::SingleShift2 => shifted_byte(sets, sets.g2, byte),
         HalfRead::SingleShift3 => shifted_byte(sets, sets.g3, byte),
@@ -317,7 +296,7 @@ fn first_byte(sets: CodeSets, byte: u8) -> ByteOutcome
     match control0(byte) {
         Some(Row::Whole(code)) => ByteOutcome::Code(code, sets.after_control0(byte)),
         Some(Row::Out(left)) => ByteOutcome::Fault(CodeFault::LeftOut(left)),
-        Some(Row::More) => ByteOutcome::More(HalfRead::after_control(byte)),
+        Some(Row::More) => ByteOutcome::More(after_control(byte)),
         None if byte < 0x80 => graphic_byte(sets, byte),
         None => ByteOutcome::Fault(CodeFault::EighthBit),
     }
@@ -385,19 +364,6 @@ fn argument_byte(sets: CodeSets, argument: Argument, byte: u8) -> ByteOutcome
     }
 }
 
-/// Decodes the byte after the intermediate byte of a designation.
-fn designation_byte(sets: CodeSets, intermediate: u8, byte: u8) -> ByteOutcome
-    requires from { 0x28 ≤ intermediate }
-    requires to { intermediate ≤ 0x2F }
-    ensures { IsOutcomeOf sets (HalfRead.Designation intermediate) byte result }
-{
-    if byte == 0x20 {
-        ByteOutcome::More(HalfRead::SpacedDesignation(intermediate))
-    } else {
-        final_byte(sets, intermediate, byte)
-    }
-}
-
 /// Decodes the final byte of a designation.
 #[tactic(auto, unfolding(crate::specs::Front::final_front, crate::specs::Front::designated_front, crate::specs::Front::bad_byte))]
 fn final_byte(sets: CodeSets, intermediate: u8, byte: u8) -> ByteOutcome
@@ -460,17 +426,15 @@ fn bad_byte(fault: CodeFault, byte: u8) -> ByteOutcome
     }
 }
 
-impl HalfRead {
-    /// Returns the incomplete code that begins with this control of the C0 set.
-    #[tactic(auto, unfolding(crate::specs::HalfReadCodes::half_read_after))]
-    fn after_control(control: u8) -> HalfRead
-        ensures { result ≡ half_read_after control }
-    {
-        match control {
-            0x19 => HalfRead::SingleShift2,
-            0x1B => HalfRead::Escape,
-            0x1C => HalfRead::Position,
-            _ => HalfRead::SingleShift3,
-        }
+/// Returns the incomplete code that begins with this control of the C0 set.
+#[tactic(auto, unfolding(crate::specs::HalfReadCodes::half_read_after))]
+fn after_control(control: u8) -> HalfRead
+    ensures { result ≡ half_read_after control }
+{
+    match control {
+        0x19 => HalfRead::SingleShift2,
+        0x1B => HalfRead::Escape,
+        0x1C => HalfRead::Position,
+        _ => HalfRead::SingleShift3,
     }
 }

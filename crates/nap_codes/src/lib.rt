@@ -1,5 +1,4 @@
-//! The codes of a stream: characters, controls, opcodes and operand words, and the lexer that finds them (PROFILE.md,
-//! Code sets and escapes).
+//! The codes of a stream, and the lexer that finds them (PROFILE.md, Code sets and escapes).
 #![tactic(auto)]
 
 mod code;

@@ -1,8 +1,7 @@
 //! The code at the beginning of bytes.
-
-ghost use Rattle.std.specs.Prelude.{ℕ, ◌≡◌, ◌<◌, ◌≤◌, List, ◌∷◌};
+ghost use Rattle.std.specs.Prelude.{ℕ, ◌≡◌, ◌<◌, List, ◌∷◌, unwrap_or};
 ghost use Rattle.nap_codes.specs.declared.code_set.CodeSets.{CodeSets};
-ghost use Rattle.nap_codes.specs.Front.{argument_front, escape_front, final_front, front, more_front, one_byte_later, position_front, sequence_front, single_shift_front};
+ghost use Rattle.nap_codes.specs.Front.{argument_front, escape_front, final_front, front, one_byte_later, position_front, sequence_front, single_shift_front};
 ghost use Rattle.nap_codes.specs.NextCodes.{IsNextOf, next_of_code};
 
 use crate::code::Code;
@@ -26,7 +25,7 @@ pub enum NextCode {
 
 /// Consumes the code that begins with a control of the C0 set, if it is complete.
 #[inline(always)]
-#[tactic(auto, unfolding(crate::specs::Front::front, crate::specs::Front::control0_front, crate::specs::CodeSets::after_control0))]
+#[tactic(auto, unfolding(crate::specs::Front::front, crate::specs::Front::control0_front, crate::specs::Front::more_front, crate::specs::CodeSets::after_control0))]
 pub(crate) fn next_control(sets: &mut CodeSets, control: u8, rest: &[u8]) -> NextCode
     requires { control < 0x20 }
     ensures { IsNextOf (front sets.old (control ∷ rest.now)) sets.old result sets.new }
@@ -40,7 +39,11 @@ pub(crate) fn next_control(sets: &mut CodeSets, control: u8, rest: &[u8]) -> Nex
             *sets = sets.after_control0(control);
             whole(code, 1)
         }
-        Some(Row::More) => after_control(sets, control, rest),
+        Some(Row::More) => match control {
+            0x1C => position(rest).unwrap_or(NextCode::Other),
+            0x19 => shifted(sets.g2, rest).unwrap_or(NextCode::Other),
+            _ => shifted(sets.g3, rest).unwrap_or(NextCode::Other),
+        },
         _ => NextCode::Other,
     }
 }
@@ -59,58 +62,38 @@ fn whole(code: Code, count: usize) -> NextCode
     }
 }
 
-/// Consumes the code that begins with a control that has further bytes.
-#[inline(always)]
-#[tactic(auto, unfolding(crate::specs::Front::more_front))]
-fn after_control(sets: &mut CodeSets, control: u8, rest: &[u8]) -> NextCode
-    ensures { IsNextOf (one_byte_later (more_front sets.old control rest.now)) sets.old result sets.new }
-{
-    match control {
-        0x1B => after_escape(sets, rest),
-        0x1C => position(rest),
-        0x19 => shifted(sets.g2, rest),
-        _ => shifted(sets.g3, rest),
-    }
-}
-
 /// Returns the code after a single shift of this set.
 #[inline(always)]
 #[tactic(auto, unfolding(crate::specs::Front::single_shift_front, crate::specs::Front::shifted_front, crate::specs::Front::non_pdi_code, crate::specs::Front::one_byte_later, crate::specs::Front::bad_byte))]
-fn shifted(set: CodeSet, rest: &[u8]) -> NextCode
-    ensures { (sets : CodeSets) → IsNextOf (one_byte_later (single_shift_front sets set rest.now)) sets result sets }
+fn shifted(set: CodeSet, rest: &[u8]) -> Option<NextCode>
+    ensures { (sets : CodeSets) → IsNextOf (one_byte_later (single_shift_front sets set rest.now)) sets (unwrap_or result NextCode.Other) sets }
 {
-    let Some(byte) = rest.first() else {
-        return NextCode::Other;
-    };
-    if *byte < 0x20 || *byte >= 0x80 {
-        return NextCode::Other;
+    let byte = *rest.first()?;
+    if byte < 0x20 || byte >= 0x80 {
+        return None;
     }
     match set {
-        CodeSet::Primary => NextCode::Acts(2, Code::Char(CharSet::Primary, *byte)),
-        CodeSet::Supplementary => NextCode::Acts(2, Code::Char(CharSet::Supplementary, *byte)),
-        CodeSet::Mosaic => NextCode::Acts(2, Code::Char(CharSet::Mosaic, *byte)),
-        CodeSet::Drcs => NextCode::Acts(2, Code::Char(CharSet::Drcs, *byte)),
-        CodeSet::Macros => NextCode::Calls(2, *byte),
-        CodeSet::Pdi => NextCode::Other,
+        CodeSet::Primary => Some(NextCode::Acts(2, Code::Char(CharSet::Primary, byte))),
+        CodeSet::Supplementary => Some(NextCode::Acts(2, Code::Char(CharSet::Supplementary, byte))),
+        CodeSet::Mosaic => Some(NextCode::Acts(2, Code::Char(CharSet::Mosaic, byte))),
+        CodeSet::Drcs => Some(NextCode::Acts(2, Code::Char(CharSet::Drcs, byte))),
+        CodeSet::Macros => Some(NextCode::Calls(2, byte)),
+        CodeSet::Pdi => None,
     }
 }
 
 /// Returns APS.
 #[inline(always)]
 #[tactic(auto, unfolding(crate::specs::Front::position_front, crate::specs::Front::column_front, crate::specs::Front::last_byte, crate::specs::Front::one_byte_later, crate::specs::Front::bad_byte))]
-fn position(rest: &[u8]) -> NextCode
-    ensures { (sets : CodeSets) → IsNextOf (one_byte_later (position_front sets rest.now)) sets result sets }
+fn position(rest: &[u8]) -> Option<NextCode>
+    ensures { (sets : CodeSets) → IsNextOf (one_byte_later (position_front sets rest.now)) sets (unwrap_or result NextCode.Other) sets }
 {
-    let Some((row, rest)) = rest.split_first() else {
-        return NextCode::Other;
-    };
-    let Some(column) = rest.first() else {
-        return NextCode::Other;
-    };
+    let (row, rest) = rest.split_first()?;
+    let column = rest.first()?;
     if *row < 0x20 || *row >= 0x80 || *column < 0x20 || *column >= 0x80 {
-        return NextCode::Other;
+        return None;
     }
-    NextCode::Acts(3, Code::Step(TextStep::Aps(*row, *column)))
+    Some(NextCode::Acts(3, Code::Step(TextStep::Aps(*row, *column))))
 }
 
 /// Consumes the code after ESC.
@@ -125,7 +108,7 @@ pub(crate) fn after_escape(sets: &mut CodeSets, rest: &[u8]) -> NextCode
     match control1(*byte) {
         Some(Row::Whole(code)) => whole(code, 2),
         Some(Row::Out(_)) => NextCode::Other,
-        Some(Row::More) => argument(Argument::of(*byte), rest),
+        Some(Row::More) => argument(Argument::of(*byte), rest).unwrap_or(NextCode::Other),
         None => sequence(sets, *byte, rest),
     }
 }
@@ -133,16 +116,11 @@ pub(crate) fn after_escape(sets: &mut CodeSets, rest: &[u8]) -> NextCode
 /// Returns the code of a control with an argument.
 #[inline(always)]
 #[tactic(auto, unfolding(crate::specs::Front::argument_front, crate::specs::Front::last_byte, crate::specs::Front::one_byte_later, crate::specs::Front::bad_byte))]
-fn argument(argument: Argument, rest: &[u8]) -> NextCode
-    ensures { (sets : CodeSets) → IsNextOf (one_byte_later (one_byte_later (argument_front sets argument rest.now))) sets result sets }
+fn argument(argument: Argument, rest: &[u8]) -> Option<NextCode>
+    ensures { (sets : CodeSets) → IsNextOf (one_byte_later (one_byte_later (argument_front sets argument rest.now))) sets (unwrap_or result NextCode.Other) sets }
 {
-    let Some(byte) = rest.first() else {
-        return NextCode::Other;
-    };
-    match argument.code(*byte) {
-        Some(code) => whole(code, 3),
-        None => NextCode::Other,
-    }
+    let code = argument.code(*rest.first()?)?;
+    Some(whole(code, 3))
 }
 
 /// Consumes a locking shift or a designation.

@@ -1,5 +1,4 @@
 //! The opcodes of the PDI set (PROFILE.md, Opcodes), and the codes that the profile leaves out by name.
-
 ghost use Rattle.std.specs.Prelude.{◌≡◌};
 ghost use Rattle.nap_codes.specs.Tables.{left_out_opcode, opcode_rows, row_of};
 

@@ -1,4 +1,4 @@
-use Rattle.nap_command.proofs.Common.{Action, AnswersLines, AnswersPage, Bool, BreaksWithin, Canonical, Collects, Command, CountLacksMemory, CountSink, CountsEntries, Denies, Entry, Err, Fails, Failure, Fault, Finds, Ghosts, IfSome, IsAccepted, IsAnswer, IsCount, IsCounted, IsMadeOf, IsPageText, IsPlaced, IsRead, IsReadWhole, IsSome, IsStreamRefusal, LacksMemoryFor, LacksWithin, List, MatchResult, None, Ok, Option, PageText, Printout, PrintsBy, PrintsCount, Question, Reading, Refusal, RefusedBy, RefusesPage, Result, ShowsText, Some, StartsText, Took, Uncounted, Verdict, [], accepted_body_of, ap, arith, canon_text, cause_of, count_line, ended_line, false, inl, inr, length, length-append, list_of, means, refl, refusal_of_text, refused_body_of, refused_line, subst, sym, text, ℕ, ◌^◌, ◌∙◌, ◌≡◌, ◌≢◌, ◌≤◌, ◌⊎◌}
+use Rattle.nap_command.proofs.Common.{Action, AnswersLines, AnswersPage, Bool, BreaksWithin, Canonical, Collects, Command, CountLacksMemory, CountSink, CountsEntries, Denies, Entry, Err, Fails, Failure, Fault, Finds, Ghosts, IfSome, IsAccepted, IsAnswer, IsCount, IsCounted, IsMadeOf, IsPlaced, IsRead, IsReadWhole, IsSome, IsStreamRefusal, LacksMemoryFor, LacksWithin, List, MatchResult, None, Ok, Option, Printout, PrintsBy, PrintsCount, Question, Reading, Refusal, RefusedBy, RefusesPage, Result, Some, StartsText, Took, Uncounted, Verdict, [], accepted_body_of, ap, arith, canon_text, cause_of, count_line, ended_line, false, inl, inr, length, length-append, list_of, means, refl, refusal_of_text, refused_body_of, refused_line, subst, sym, text, ℕ, ◌^◌, ◌∙◌, ◌≡◌, ◌≢◌, ◌≤◌, ◌⊎◌}
 use Rattle.nap_make.proofs.PublicLaws.{text_written}
 use Rattle.nap_list.specs.declared.device.Outlet as outlet
 
@@ -112,17 +112,12 @@ module _ (q : Question) (apart : q ≢ Question.Check) (budget : ℕ) (p : List 
   answers_refused g s f place h sound line body is = refusing line body (record { fault = f; place = place }) (λ wants. let bad : ⊥ = cc in absurd bad) h.counts is.0 is.1
 
   -- an answer for a refused page whose canonical text was asked for
-  answers_unspelled : (r : Refusal) → RefusesPage budget p r → (line body : List ℕ) → (line ≡ refused_line r) × (body ≡ []) → AnswersPage q budget p line body
+  pub answers_unspelled : (r : Refusal) → RefusesPage budget p r → (line body : List ℕ) → (line ≡ refused_line r) × (body ≡ []) → AnswersPage q budget p line body
   answers_unspelled r h line body is =
       elim (is_memory r.fault) [
         | inl wanting ↦ lacking line body r.place (h.memory wanting) (is.0 ∙ ap (λ (f : Fault). refused_line (record { fault = f; place = r.place })) wanting) is.1
         | inr apart ↦ refusing line body r apart (h.refused apart) is.0 is.1
       ]
-
--- an answer for a page whose canonical text was made, or refused
-pub answers_spelled : (budget : ℕ) (p line body : List ℕ) (found : Result PageText Refusal) → IsPageText budget p found → ShowsText found line body → IsAnswer Question.Canon budget p line body
-answers_spelled budget p line body (Ok found) h is = answers_accepted Question.Canon budget p line body found.count h.0.accepted h.1 (is.0, is.1) (is.2 ∙ h.0.text_is)
-answers_spelled budget p line body (Err r) h is = answers_unspelled Question.Canon (λ h. cc) budget p refl r h line body is
 
 -- lines make the page that is the body
 pub answers_made : (p line text body : List ℕ) (made : IsMadeOf text p) → body ≡ text → line ≡ count_line (length made.entries) → AnswersLines p line body

@@ -1,10 +1,9 @@
-use Rattle.nap_command.proofs.Common.{Bool, CharSet, Code, CodeSet, CodeSets, Colour, DrawFault, Drawing, EntriesAreBounded, Entry, Err, Fault, LastChar, List, Machine, Mode, None, Ok, Opcode, OpenDefinition, Option, Outcome, Pen, Placed, Refusal, Result, Row, RuleResult, Some, Spells, State, StreamFront, TextIsBounded, Two, Unfinished, Work, [], after, after_body, all_at, ap, arith, attributes, begun, between, body_front, body_front_by, body_of, bound_front, bytes_of, carried_words, char_on, closed_front, code_front, code_is_spelled, code_length, code_rule, colour_prelude, command_piece, control0, control0_rows, control1, control1_rows, definition_ended_by, definition_opened, drawn_front, drop, ended_by, entry_pieces, false, front_by, front_in, half_code, half_read, hand_of, if◌then◌else◌, in_body, in_gl, kind_of, length, length-append, length-drop, length-map, length-take-le, ltb-false, map, means, nat_lt, nat_tests, non_pdi_code, one_entry_result, open_body, open_run, opened_front, pel_prelude, pen_prelude, pieces, place_at, placed_from, prelude, refl, refusal, repeat, repeated_chars, row_of, rule, rule_result, run_length, run_limit, same_colour, same_pen, shown_front, single_shift2, single_shift3, spelling_pieces, start, start_machine, steps_left, store_limit, stream_front, subst, suc, take, take-append-drop, text_end_after_header, texture_prelude, true, walk, with_attributes, with_code, with_definition, with_drawn, with_end, with_last, with_run, with_run_by, zero, ℕ, ◌&&◌, ◌*◌, ◌++◌, ◌+◌, ◌-◌, ◌==◌, ◌∷◌, ◌≡◌, ◌≤◌}
-use Rattle.nap_canon.proofs.PublicLaws.{look_is_current}
+use Rattle.nap_command.proofs.Common.{Bool, Code, CodeSet, CodeSets, Colour, DrawFault, EntriesAreBounded, Entry, Err, Fault, LastChar, List, Machine, Mode, None, Ok, Opcode, OpenDefinition, Option, Outcome, Pen, Placed, Refusal, Result, Row, RuleResult, Some, Spells, State, StreamFront, TextIsBounded, Two, Unfinished, Work, [], after, after_body, all_at, and_parts, ap, arith, attributes, begun, between, body_front, body_front_by, body_of, bound_front, bytes_of, carried_words, char_on, closed_front, code_front, code_is_spelled, code_length, code_rule, colour_prelude, command_piece, control0, control0_rows, control1, control1_rows, drawn_front, drop, ended_by, entry_pieces, false, front_by, front_in, half_code, half_read, if◌then◌else◌, in_body, in_gl, kind_of, length, length-append, length-drop, length-map, length-take-le, look_is_current, ltb-false, map, means, nat_lt, nat_tests, non_pdi_code, open_body, open_run, opened_front, pel_prelude, pen_prelude, pieces, place_at, placed_from, prelude, refl, refusal, repeat, repeated_chars, row_of, rule, rule_result, run_length, run_limit, same_colour, same_pen, shown_front, single_shift2, single_shift3, spelling_pieces, start, start_machine, steps_left, store_limit, stream_front, subst, suc, take, take-append-drop, text_end_after_header, texture_prelude, true, walk, with_attributes, with_code, with_definition, with_drawn, with_end, with_last, with_run, with_run_by, zero, ℕ, ◌&&◌, ◌*◌, ◌++◌, ◌+◌, ◌-◌, ◌==◌, ◌∷◌, ◌≡◌, ◌≤◌}
 use Rattle.nap_codes.specs.declared.control.Row.TheVariants.{Whole}
 use Rattle.nap_codes.specs.Front as front
 use Rattle.nap_reader.specs.Bodies as bodies
 use Rattle.nap_reader.specs.Course as course
-use Rattle.nap_command.proofs.RunBounds.{AddsAtMost, Few, char_few, cost, cost_append, entries_few, few_none, few_one, pieces_few, points_of, prelude_few, rule_adds}
+use Rattle.nap_command.proofs.RunBounds.{Adds, char_few, cost, cost_append, entries_few, pieces_few, prelude_few, rule_adds}
 
 -- How many entries a character or a control adds, and how long their canonical text is.
 
@@ -16,21 +15,22 @@ unfolding placed_from
 length-placed n [] = refl
 length-placed n (b ∷ bytes) = ap suc (length-placed (suc n) bytes)
 
--- The entries that n bytes add are few, and so are the bytes of their canonical text after any other.
-pub record Bounded (n : ℕ) (es : List Entry) : Type 0 where
-  pub count : length es ≤ 21 * n
-  pub size : (t : State) → cost (pieces Two t es) ≤ 190 * n
+-- The entries es take some of the bytes that are left, and of what may be charged; the others are counted again.
+record Takes (before after : ℕ) (es : List Entry) : Type 0 where
+  count : length es + 21 * after ≤ 21 * before
+  size : (t : State) → cost (pieces Two t es) + 190 * after ≤ 190 * before
 
-abbrev pub AddsFor : ℕ → Result RuleResult DrawFault → Type 0
+-- n bytes add these entries
+abbrev Bounded : ℕ → List Entry → Type 0
+Bounded n es = Takes n 0 es
+
+abbrev AddsFor : ℕ → Result RuleResult DrawFault → Type 0
 AddsFor n (Ok drawn) = Bounded n drawn.entries
 AddsFor n (Err fault) = Unit {0}
 
-pub few_for : (n m q : ℕ) (r : Result RuleResult DrawFault) → AddsAtMost m q r → m ≤ 21 * n → 90 * m + 8 * q ≤ 190 * n → AddsFor n r
-few_for n m q (Ok drawn) few h k = record {
-  count = omega (arith, few.count, h);
-  size = λ t. omega (arith, entries_few t drawn.entries, few.count, few.points, k);
-}
-few_for n m q (Err fault) few h k = tt
+few_for : (n w : ℕ) (r : Result RuleResult DrawFault) → Adds w r → w ≤ 190 * n → AddsFor n r
+few_for n w (Ok drawn) few h = record { count = omega (arith, few, h); size = λ t. omega (arith, entries_few t drawn.entries, few, h) }
+few_for n w (Err fault) few h = tt
 
 -- copies of a character: only the first has a prelude
 
@@ -39,6 +39,10 @@ pen_same a = grind (arith, nat_tests)
 
 colour_same : (a : Colour) → same_colour a a ≡ true
 colour_same a = grind (arith, nat_tests)
+
+no_pieces : (t : State) → cost (pieces Two t []) ≡ 0
+unfolding pieces
+no_pieces t = refl
 
 -- the attributes of text are those of another state
 record SameHand (t s : State) : Type 0 where
@@ -50,36 +54,28 @@ no_prelude : (t s : State) (last : LastChar) → SameHand t s → prelude t.draw
 unfolding prelude pen_prelude pel_prelude colour_prelude texture_prelude
 no_prelude t s last is = rw (is.pen, is.colour, is.text, pen_same s.drawing.pen, colour_same s.drawing.colour, look_is_current s.drawing.text (Some s.drawing.text) refl) refl
 
+-- one more copy, whose prelude costs k
+copy_more : (k m : ℕ) (t s : State) (last : LastChar) (es : List Entry) → let e = char_on s.drawing last in
+    cost (map command_piece (prelude t.drawing (attributes e))) ≤ k → cost (pieces Two (after t e) es) ≤ m → cost (pieces Two t (e ∷ es)) ≤ k + 8 + m
+unfolding pieces
+copy_more k m t s last es first rest =
+    let e = char_on s.drawing last in
+    let before = map command_piece (prelude t.drawing (attributes e)) in
+    omega (arith, cost_append (entry_pieces Two t e) (pieces Two (after t e) es), cost_append before (spelling_pieces Two (with_attributes t.drawing (attributes e)) e), first, char_few last.set last.code, rest)
+
 further_few : (t s : State) (last : LastChar) (n : ℕ) → SameHand t s → cost (pieces Two t (repeated_chars s last n)) ≤ 8 * n
-unfolding repeated_chars pieces
-further_few t s last zero is = omega arith
+unfolding repeated_chars
+further_few t s last zero is = omega (arith, no_pieces t)
 further_few t s last (suc n) is =
-    let e : Entry = char_on s.drawing last in
-    let d : Drawing = with_attributes t.drawing (attributes e) in
-    let here : cost (map command_piece (prelude t.drawing (attributes e))) ≡ 0 = ap (λ cs. cost (map command_piece cs)) (no_prelude t s last is) in
-    omega (
-      arith,
-      cost_append (entry_pieces Two t e) (pieces Two (after t e) (repeated_chars (after s e) last n)),
-      cost_append (map command_piece (prelude t.drawing (attributes e))) (spelling_pieces Two d e),
-      here,
-      char_few last.set last.code,
-      further_few (after t e) (after s e) last n (record { pen = refl; colour = refl; text = refl }),
-    )
+    let e = char_on s.drawing last in
+    omega (arith, copy_more 0 (8 * n) t s last _ (rw (no_prelude t s last is) (omega arith)) (further_few (after t e) (after s e) last n (record { pen = refl; colour = refl; text = refl })))
 
 copies_few : (t s : State) (last : LastChar) (n : ℕ) → cost (pieces Two t (repeated_chars s last n)) ≤ 66 + 8 * n
-unfolding repeated_chars pieces
-copies_few t s last zero = omega arith
+unfolding repeated_chars
+copies_few t s last zero = omega (arith, no_pieces t)
 copies_few t s last (suc n) =
-    let e : Entry = char_on s.drawing last in
-    let d : Drawing = with_attributes t.drawing (attributes e) in
-    omega (
-      arith,
-      cost_append (entry_pieces Two t e) (pieces Two (after t e) (repeated_chars (after s e) last n)),
-      cost_append (map command_piece (prelude t.drawing (attributes e))) (spelling_pieces Two d e),
-      prelude_few t.drawing (attributes e),
-      char_few last.set last.code,
-      further_few (after t e) (after s e) last n (record { pen = refl; colour = refl; text = refl }),
-    )
+    let e = char_on s.drawing last in
+    omega (arith, copy_more 66 (8 * n) t s last _ (prelude_few t.drawing (attributes e)) (further_few (after t e) (after s e) last n (record { pen = refl; colour = refl; text = refl })))
 
 copies_length : (s : State) (last : LastChar) (n : ℕ) → length (repeated_chars s last n) ≡ n
 unfolding repeated_chars
@@ -98,39 +94,9 @@ copied n work count (Some last) few long = record {
   size = λ t. omega (arith, copies_few t work.state last count, few, long);
 }
 
-ended_few : (work : Work) (definition : Option OpenDefinition) → Few 2 0 (definition_ended_by work definition).entries
-ended_few work None = few_none 2 0
-ended_few work (Some opened) = few_one 1 0 Entry.DefEnd (omega arith)
-
-opened_few : (work : Work) (e : Entry) (definition : Option OpenDefinition) → points_of e ≡ 0 → Few 2 0 (definition_opened (definition_ended_by work definition) e).entries
-opened_few work e None plain = few_one 1 0 e (omega (arith, plain))
-opened_few work e (Some opened) plain = record { count = omega arith; points = omega (arith, plain) }
-
-to_end : (n : ℕ) (work : Work) (last : Option LastChar) (e : Entry) → 1 ≤ n → points_of e ≡ 0 → AddsFor n (with_last last (λ last. one_entry_result work e))
-to_end n work None e some plain = tt
-to_end n work (Some last) e some plain = few_for n 1 0 (one_entry_result work e) (few_one 0 0 e (omega (arith, plain))) (omega (arith, some)) (omega (arith, some))
-
--- a result with at most two entries
-two_for : (n : ℕ) (r : Result RuleResult DrawFault) → AddsAtMost 2 0 r → 1 ≤ n → AddsFor n r
-two_for n r few some = few_for n 2 0 r few (omega (arith, some)) (omega (arith, some))
-
-one_for : (n : ℕ) (work : Work) (e : Entry) → 1 ≤ n → points_of e ≡ 0 → AddsFor n (one_entry_result work e)
-one_for n work e some plain = few_for n 1 0 (one_entry_result work e) (few_one 0 0 e (omega (arith, plain))) (omega (arith, some)) (omega (arith, some))
-
 code_for : (n : ℕ) (work : Work) (code : Code) → FitsIn code n → AddsFor n (code_rule work code)
 code_for n work (Code.Repeat count) fits = copied n work count work.state.last fits.0 fits.1
-code_for n work (Code.Char set code) some = one_for n work (char_on work.state.drawing (record { set = set; code = code })) some refl
-code_for n work (Code.Step step) some = one_for n work (Entry.TextMove step (hand_of work.state.drawing)) some refl
-code_for n work Code.Clear some = one_for n work (Entry.Clear work.state.drawing.pen) some refl
-code_for n work Code.Bell some = one_for n work Entry.Bell some refl
-code_for n work Code.ToEol some = to_end n work work.state.last (Entry.ToEol (hand_of work.state.drawing)) some refl
-code_for n work (Code.BlinkMark on) some = one_for n work (Entry.BlinkMark on work.state.drawing.colour) some refl
-code_for n work (Code.Cursor kind) some = one_for n work (Entry.Cursor kind) some refl
-code_for n work (Code.DefGlyph code) some = two_for n (code_rule work (Code.DefGlyph code)) (opened_few work (Entry.GlyphStart code) work.state.definition refl) some
-code_for n work (Code.DefMask mask) some = two_for n (code_rule work (Code.DefMask mask)) (opened_few work (Entry.MaskStart mask) work.state.definition refl) some
-code_for n work (Code.DefMacro name show) some = two_for n (code_rule work (Code.DefMacro name show)) (ended_few work work.state.definition) some
-code_for n work Code.End some = two_for n (code_rule work Code.End) (ended_few work work.state.definition) some
-code_for n work code some = two_for n (code_rule work code) (few_none 2 0) some
+code_for n work code some = few_for n 180 (code_rule work code) (grind arith) (omega (arith, some))
 
 -- no row of a table is a REPEAT, which has an argument
 
@@ -145,13 +111,12 @@ all_short (row ∷ rows) = is_short row.1 && all_short rows
 row_short : (rows : List (ℕ × Row)) (byte : ℕ) (row : Row) → all_short rows ≡ true → row_of rows byte ≡ Some row → is_short row ≡ true
 unfolding row_of
 row_short [] byte row all is = cc
-row_short (r ∷ rows) byte row all is = by (byte == r.0) (is_short r.1) refl all is (row_short rows byte row)
-  where
-    by : (b short : Bool) → is_short r.1 ≡ short → (short && all_short rows) ≡ true → (if b then Some r.1 else row_of rows byte) ≡ Some row →
-        (all_short rows ≡ true → row_of rows byte ≡ Some row → is_short row ≡ true) → is_short row ≡ true
-    by true true own all is next = let e : r.1 ≡ row = cc in subst (λ (x : Row). is_short x ≡ true) e own
-    by false true own all is next = next all is
-    by b false own all is next = cc
+row_short (r ∷ rows) byte row all is =
+    let both = and_parts (is_short r.1) (all_short rows) all in
+    (elim (byte == r.0) as (λ b. (if b then Some r.1 else row_of rows byte) ≡ Some row → is_short row ≡ true) [
+      | true ↦ λ e. let same : r.1 ≡ row = cc in subst (λ (x : Row). is_short x ≡ true) same both.0
+      | false ↦ row_short rows byte row both.1
+    ]) is
 
 short_fits : (code : Code) → is_short (Whole code) ≡ true → (n : ℕ) → 1 ≤ n → FitsIn code n
 short_fits (Code.Repeat count) is n some = cc
@@ -170,12 +135,8 @@ same_fits a b n is fits = let e : a ≡ b = cc in subst (λ (x : Code). FitsIn x
 
 set_fits : (set : CodeSet) (byte : ℕ) (code : Code) (n : ℕ) → non_pdi_code set byte ≡ Some code → 1 ≤ n → FitsIn code n
 unfolding non_pdi_code
-set_fits CodeSet.Primary byte code n is some = same_fits (Code.Char CharSet.Primary byte) code n is some
-set_fits CodeSet.Supplementary byte code n is some = same_fits (Code.Char CharSet.Supplementary byte) code n is some
-set_fits CodeSet.Mosaic byte code n is some = same_fits (Code.Char CharSet.Mosaic byte) code n is some
-set_fits CodeSet.Drcs byte code n is some = same_fits (Code.Char CharSet.Drcs byte) code n is some
-set_fits CodeSet.Macros byte code n is some = same_fits (Code.Call byte) code n is some
 set_fits CodeSet.Pdi byte code n is some = cc
+set_fits _ byte code n is some = same_fits _ code n is some
 
 -- a code fits in the bytes that spell it
 spelled_fits : (sets : CodeSets) (bytes : List ℕ) (code : Code) (after : CodeSets) → Spells sets bytes code after → FitsIn code (length bytes)
@@ -187,7 +148,7 @@ spelled_fits sets _ code _ (single_shift2 graphic is) = set_fits _ _ code 2 is (
 spelled_fits sets _ code _ (single_shift3 graphic is) = set_fits _ _ code 2 is (omega arith)
 spelled_fits sets _ _ _ _ = omega arith
 
-pub code_adds : (work : Work) (sets : CodeSets) (xs : List ℕ) (code : Code) (n : ℕ) (after : CodeSets) → front.front sets xs ≡ front.complete code n after → AddsFor n (code_rule work code)
+code_adds : (work : Work) (sets : CodeSets) (xs : List ℕ) (code : Code) (n : ℕ) (after : CodeSets) → front.front sets xs ≡ front.complete code n after → AddsFor n (code_rule work code)
 code_adds work sets xs code n after is =
     let (within, spelled) = (code_is_spelled sets xs code n after).0 is in
     code_for n work code (subst (FitsIn code) (length-take-le n xs within) (spelled_fits sets (take n xs) code after spelled))
@@ -199,19 +160,10 @@ abbrev IsPending : Option Unfinished → ℕ → Type 0
 IsPending (Some (open_run op place run)) n = suc (length run) ≤ n
 IsPending _ n = Unit {0}
 
--- The entries es take some of the bytes that are left, and of what may be charged; the others are counted again.
-record Takes (before after : ℕ) (es : List Entry) : Type 0 where
-  count : length es + 21 * after ≤ 21 * before
-  size : (t : State) → cost (pieces Two t es) + 190 * after ≤ 190 * before
-
 abbrev IsFew : ℕ → ℕ → StreamFront → Type 0
 IsFew bytes left (course.pause u) = IsPending (Some u) bytes
 IsFew bytes left (course.refuse r) = Unit {0}
 IsFew bytes left (course.act es m ys) = Takes (bytes + left) (length ys + m.left) es
-
-no_pieces : (t : State) → cost (pieces Two t []) ≡ 0
-unfolding pieces
-no_pieces t = refl
 
 takes_none : (before after : ℕ) → after ≤ before → Takes before after []
 takes_none before after fewer = record { count = omega (arith, fewer); size = λ t. omega (arith, fewer, no_pieces t) }
@@ -237,20 +189,17 @@ shown_few bytes m place body rest fewer = by (nat_lt m.left (length body)) refl
 closed_few : (bytes taken : ℕ) (m : Machine) (op : Opcode) (place : ℕ) (run rest : List Placed) → 1 ≤ taken → taken + (length run + length rest) ≤ bytes → IsFew bytes m.left (closed_front m op place run rest)
 closed_few bytes taken m op place run [] some parts = omega (arith, some, parts, length-map run (λ x. x.byte - 64))
 closed_few bytes taken m op place run (x ∷ xs) some parts =
-    let words : length (carried_words run) ≡ length run = length-map run (λ x. x.byte - 64) in
     drawn_few bytes (taken + length run) m place (x ∷ xs) (rule m.work op (carried_words run))
-    (few_for (taken + length run) (suc (length (carried_words run))) (length (carried_words run) + 2) (rule m.work op (carried_words run)) (rule_adds m.work op (carried_words run)) (omega (arith, some, words)) (omega (arith, some, words)))
-    (omega (arith, parts))
+    (few_for (taken + length run) _ _ (rule_adds m.work (carried_words run) op) (omega (arith, some, length-map run (λ x. x.byte - 64)))) (omega (arith, parts))
 
 opcode_few : (bytes taken : ℕ) (m : Machine) (op : Opcode) (place : ℕ) (xs : List Placed) → 1 ≤ taken → taken + length xs ≤ bytes → IsFew bytes m.left (opened_front m op place xs)
 opcode_few bytes taken m op place xs some parts =
-    by (nat_lt run_limit (length (take (run_length xs) xs)))
-    (closed_few bytes taken m op place (take (run_length xs) xs) (drop (run_length xs) xs) some (omega (arith, parts, ap length (take-append-drop (run_length xs) xs), length-append (take (run_length xs) xs) (drop (run_length xs) xs))))
-  where
-    by : (b : Bool) → IsFew bytes m.left (closed_front m op place (take (run_length xs) xs) (drop (run_length xs) xs)) →
-        IsFew bytes m.left (if b then course.refuse (refusal Fault.LongRun place) else closed_front m op place (take (run_length xs) xs) (drop (run_length xs) xs))
-    by true h = tt
-    by false h = h
+    let run = take (run_length xs) xs in
+    let rest = drop (run_length xs) xs in
+    elim (nat_lt run_limit (length run)) as (λ b. IsFew bytes m.left (if b then course.refuse (refusal Fault.LongRun place) else closed_front m op place run rest)) [
+      | true ↦ tt
+      | false ↦ closed_few bytes taken m op place run rest some (omega (arith, parts, ap length (take-append-drop (run_length xs) xs), length-append run rest))
+    ]
 
 -- a code of n bytes, with the rest after it
 code_few : (bytes n : ℕ) (m : Machine) (c : Code) (place : ℕ) (rest : List Placed) → 1 ≤ n → n + length rest ≤ bytes → AddsFor n (code_rule m.work c) → IsFew bytes m.left (code_front m (kind_of c) place rest)
@@ -354,7 +303,7 @@ whole : (n after : ℕ) (es : List Entry) → Takes n after es → Bounded n es
 whole n after es h = record { count = omega (arith, h.count); size = λ t. omega (arith, h.size t) }
 
 run_within : (n : ℕ) (o : Outcome) (u : Option Unfinished) → Takes n (length o.rest + o.machine.left) o.entries → IsPending u (length o.rest) → Bounded n (with_run_by o u).entries
-run_within n o (Some (open_run op place run)) h few = by (rule o.machine.work op run) (few_for (suc (length run)) (suc (length run)) (length run + 2) (rule o.machine.work op run) (rule_adds o.machine.work op run) (omega arith) (omega arith))
+run_within n o (Some (open_run op place run)) h few = by (rule o.machine.work op run) (few_for (suc (length run)) _ _ (rule_adds o.machine.work run op) (omega arith))
   where
     by : (r : Result RuleResult DrawFault) → AddsFor (suc (length run)) r → Bounded n (with_drawn o place r).entries
     by (Ok drawn) adds =
@@ -371,7 +320,7 @@ means_few : (budget : ℕ) (p : List ℕ) → Bounded (length p + budget) (means
 means_few budget p = ended_within (length p + budget) (length p) (begun budget p) (begun budget p).refusal (begun_few budget p)
 
 pub entries_are_bounded : EntriesAreBounded
-entries_are_bounded budget p = (means_few budget p).count
+entries_are_bounded budget p = omega (arith, (means_few budget p).count)
 
 pub text_is_bounded : TextIsBounded
 text_is_bounded budget p =

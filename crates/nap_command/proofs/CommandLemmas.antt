@@ -1,4 +1,5 @@
-use Rattle.nap_command.proofs.Common.{Appends, Bool, DeniesInput, EndsPrinting, Err, FailsToMake, Failure, IsPrinted, List, ListFault, MakeFault, MatchResult, Ok, Option, Printout, Reading, Reported, Result, TakesText, Verdict, [], ap, arith, failure_of, false, inl, inr, is_err, length, length-take, or-false, or-true, refl, subst, sym, take, take-nil, take_all, true, ℕ, ◌||◌, ◌∙◌, ◌≡◌, ◌≤◌}
+use Rattle.nap_command.proofs.Common.{Action, Appends, Bool, Command, DeniesInput, EndsPrinting, Err, FailsToMake, Failure, IsPrinted, List, ListFault, MakeFault, MatchResult, Ok, Option, Printout, Reading, Reported, Result, TakesText, Verdict, [], ap, arith, failure_of, false, inl, inr, is_err, length, length-take, or-false, or-true, refl, subst, sym, take, take-nil, take_all, true, ℕ, ◌||◌, ◌∙◌, ◌≡◌, ◌≢◌, ◌≤◌}
+use Rattle.nap_command.specs.Commands.{CommandEnds, EndsByAction, EndsByOptions, EndsWhole}
 
 -- The end of a command whose output fails.
 
@@ -28,6 +29,17 @@ ends_printing finds fails (Ok a) q false ended h printed = rw (printed.0, printe
 ends_printing finds fails (Err f) q false ended h printed = rw (printed.1) (printed.0, h)
 ends_printing finds fails (Ok a) q true ended h printed = rw (printed.0) (refl, inl (a.text.items, a.verdict, h, printed.1))
 ends_printing finds fails (Err f) q true ended h printed = rw (printed.0) (refl, inr (f, h, nothing_printed q true (Err f) ended printed))
+
+-- what `check` or `canon` prints at the end
+ends_by : (act : Action) (c : Command) (p : List ℕ) (seen : Reading) (q : List ℕ) (failed : Bool) (ended : Result Verdict Failure) → act ≢ Action.List →
+    EndsWhole c p seen q failed ended → EndsByAction act c p seen q failed ended
+ends_by Action.List c p seen q failed ended other h = absurd (other refl)
+ends_by _ c p seen q failed ended other h = h
+
+pub ends_whole : (c : Command) (p : List ℕ) (seen : Reading) (q : List ℕ) (failed : Bool) (ended : Result Verdict Failure) → c.stream ≡ false → c.action ≢ Action.List →
+    EndsWhole c p seen q failed ended → CommandEnds c p seen q failed ended
+ends_whole c p seen q failed ended off other h =
+    subst (λ (stream : Bool). EndsByOptions stream c.hex c p seen q failed ended) (sym off) (ends_by c.action c p seen q failed ended other h)
 
 -- Reads and writes in sequence.
 

@@ -1,4 +1,4 @@
-use Rattle.nap_command.proofs.Common.{All, All-append, All-cons, All-nil, AllDigits, BegunRequestsAreNone, IsBegun, IsCutShort, IsLine, IsMore, IsNumber, IsRequest, IsWhole, KeepsWithin, List, NeverStarts, Question, RequestLine, RequestsAreCutOneWay, SplitsAtByte, StartsNone, [], ap, append_assoc, arith, cases_lt, digit_from_value, drop, drop_at, if◌then◌else◌, inl, inr, length, length-append, length-take-le, line_for, max, memory_for, most_budget, page_limit, question_name, read_limit, refl, subst, suc, sym, take, take-add, take-append-drop, take-append-le, take_at, zero, ℕ, ◌++◌, ◌+◌, ◌-◌, ◌<◌, ◌==◌, ◌∙◌, ◌∷◌, ◌≡◌, ◌≢◌, ◌≤◌}
+use Rattle.nap_command.proofs.Common.{All, All-append, All-cons, All-nil, AllDigits, BegunRequestsAreNone, IsBegun, IsCutShort, IsLine, IsMore, IsNumber, IsRequest, IsWhole, KeepsWithin, List, NeverStarts, Question, RequestLine, RequestsAreCutOneWay, SplitsAtByte, StartsNone, [], ap, append_assoc, arith, cases_lt, digit_from_value, drop, drop_at, inl, inr, length, length-append, length-take-le, line_for, max, memory_for, most_budget, page_limit, question_name, read_limit, refl, subst, suc, sym, take, take-append-add, take-append-drop, take-append-le, take_at, zero, ℕ, ◌++◌, ◌+◌, ◌-◌, ◌<◌, ◌∙◌, ◌∷◌, ◌≡◌, ◌≢◌, ◌≤◌}
 use Rattle.nap_make.proofs.PublicLaws.{no_cut, one_cut}
 
 -- A list is split at the first byte of a value in one way.
@@ -52,15 +52,6 @@ no_second line name numbers h one none is =
     let a = cut_once 32 line name numbers _ _ one (first_cut line h is) in
     none is.budget_digits is.size_digits (rw a.1 (second_cut line h is))
 
-pub joined : (line name numbers budget size : List ℕ) (h : RequestLine) → SplitsAtByte 32 line name numbers → SplitsAtByte 32 numbers budget size → Parts h name budget size → IsLine line h
-joined line name numbers budget size h one two parts = record {
-  budget_digits = budget;
-  size_digits = size;
-  line_is = one.joins ∙ ap (λ (xs : List ℕ). xs ++ 32 ∷ numbers) parts.name_is ∙ ap (λ (xs : List ℕ). question_name h.question ++ 32 ∷ xs) two.joins;
-  budget = parts.budget;
-  size = parts.size;
-}
-
 -- No line of a request contains LF.
 
 line_end : (line : List ℕ) (h : RequestLine) → IsLine line h → All (λ x. x ≢ 10) line
@@ -95,17 +86,20 @@ wrong_line buffered line following cut none more asked rest c budget page is sam
     let once = cut_once 10 (buffered ++ more) line (following ++ more) is.line (page ++ rest) (cut_stays 10 buffered line following more cut) (line_cut asked rest c budget page is (buffered ++ more) same) in
     none (line_for c budget page) (rw once.0 is.says)
 
--- a line is that of requests with one size
-pub same_size : (line : List ℕ) (h k : RequestLine) → IsLine line h → IsLine line k → h.size ≡ k.size
-same_size line h k one two =
+names_apart : (c d : Question) → question_name c ≡ question_name d → c ≡ d
+names_apart c d is = grind arith
+
+-- a line is that of one request
+one_request : (line : List ℕ) (h k : RequestLine) → IsLine line h → IsLine line k → (h.question ≡ k.question) × (h.budget ≡ k.budget) × (h.size ≡ k.size)
+one_request line h k one two =
     let parts = parts_of line (question_name h.question) (one.budget_digits ++ 32 ∷ one.size_digits) one.budget_digits one.size_digits k (first_cut line h one) (second_cut line h one) two in
-    sym one.size.value ∙ parts.size.value
+    (names_apart h.question k.question parts.name_is, sym one.budget.value ∙ parts.budget.value, sym one.size.value ∙ parts.size.value)
 
 -- bytes with an incomplete page begin with no complete request
 pub short_page : (buffered line following : List ℕ) (h : RequestLine) → SplitsAtByte 10 buffered line following → IsLine line h → length following < h.size → StartsNone buffered
 short_page buffered line following h cut says short asked rest c budget page is same =
     let once = cut_once 10 buffered line following is.line (page ++ rest) cut (line_cut asked rest c budget page is buffered same) in
-    let size = same_size line h (line_for c budget page) says (rw once.0 is.says) in
+    let size = (one_request line h (line_for c budget page) says (rw once.0 is.says)).2 in
     omega (arith, size, short, ap length once.1, length-append page rest)
 
 -- bytes that lack the end of a page begin with no complete request
@@ -169,11 +163,8 @@ module _ (bytes : List ℕ) (h : RequestLine) (n : ℕ) (whole : IsWhole bytes h
 
   pub asked_is : take (n + h.size) bytes ≡ whole.line ++ 10 ∷ page_of
   asked_is =
-      ap (take (n + h.size)) begun
-      ∙ take-add n h.size ((whole.line ++ 10 ∷ []) ++ whole.following)
-      ∙ ap (λ (xs : List ℕ). xs ++ take h.size (drop n ((whole.line ++ 10 ∷ []) ++ whole.following))) (take_at (whole.line ++ 10 ∷ []) whole.following n start)
-      ∙ ap (λ (xs : List ℕ). (whole.line ++ 10 ∷ []) ++ take h.size xs) (drop_at (whole.line ++ 10 ∷ []) whole.following n start)
-      ∙ append_assoc whole.line (10 ∷ []) page_of
+      ap (take (n + h.size)) begun ∙ ap (λ (k : ℕ). take (k + h.size) ((whole.line ++ 10 ∷ []) ++ whole.following)) (sym start)
+      ∙ take-append-add (whole.line ++ 10 ∷ []) whole.following h.size ∙ append_assoc whole.line (10 ∷ []) page_of
 
   pub whole_request : IsRequest (take (n + h.size) bytes) h.question h.budget page_of
   whole_request = record { line = whole.line; says = with_page whole.line h page_of whole.says size_is; bytes_are = asked_is }
@@ -211,31 +202,14 @@ long_line buffered none long more asked rest c budget page is same =
 
 -- Bytes are split into requests in one way.
 
-abbrev named : List ℕ → Question
-named (x ∷ y ∷ xs) = if x == 109 then Question.Make else (if y == 105 then Question.List else (if y == 108 then Question.Places else (if y == 97 then Question.Canon else Question.Check)))
-named _ = Question.Check
-
-named_is : (c : Question) → named (question_name c) ≡ c
-named_is Question.Check = refl
-named_is _ = refl
-
 pub requests_are_cut_one_way : RequestsAreCutOneWay
 requests_are_cut_one_way asked other following rest c d b e page paper one two same =
     let all = asked ++ following in
     let once = cut_once 10 all one.line (page ++ following) two.line (paper ++ rest) (line_cut asked following c b page one all refl) (line_cut other rest d e paper two all same) in
-    let h : RequestLine = line_for c b page in
-    let k : RequestLine = line_for d e paper in
-    let also : IsLine one.line k = rw once.0 two.says in
-    let says = one.says in
-    let parts = parts_of one.line (question_name c) (says.budget_digits ++ 32 ∷ says.size_digits) says.budget_digits says.size_digits k (first_cut one.line h says) (second_cut one.line h says) also in
-    let size : length page ≡ length paper = sym says.size.value ∙ parts.size.value in
+    let parts = one_request one.line (line_for c b page) (line_for d e paper) one.says (rw once.0 two.says) in
     let front : page ≡ paper =
-    sym (take_at page following (length page) refl) ∙ ap (take (length page)) once.1 ∙ take_at paper rest (length page) (sym size) in (
-      one.bytes_are ∙ ap (λ (xs : List ℕ). xs ++ 10 ∷ page) once.0 ∙ ap (λ (xs : List ℕ). two.line ++ 10 ∷ xs) front ∙ sym two.bytes_are,
-      sym (named_is c) ∙ ap named parts.name_is ∙ named_is d,
-      sym says.budget.value ∙ parts.budget.value,
-      front,
-    )
+    sym (take_at page following (length page) refl) ∙ ap (take (length page)) once.1 ∙ take_at paper rest (length page) (sym parts.2) in
+    (one.bytes_are ∙ ap (λ (xs : List ℕ). xs ++ 10 ∷ page) once.0 ∙ ap (λ (xs : List ℕ). two.line ++ 10 ∷ xs) front ∙ sym two.bytes_are, parts.0, parts.1, front)
 
 -- A read takes no more memory than the request in work and one read need.
 

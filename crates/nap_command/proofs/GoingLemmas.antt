@@ -1,4 +1,4 @@
-use Rattle.nap_command.proofs.Common.{All, All-nil, All-push, AnswersRequest, Appends, Appends-nil, Appends-trans, Bool, Buffered, Consumes, Consumes-nil, Consumes-trans, Ended, Exchange, FlushedTimes, IsExchange, List, Pipes, Session, StopsIn, StopsServing, [], ap, append-nil, append_assoc, arith, false, flat_map, flush_count, flushed_once, flushes_of, inr, length, length-append, min, refl, requests_limit, subst, suc, sym, true, zero, ℕ, ◌++◌, ◌+◌, ◌-◌, ◌^◌, ◌∙◌, ◌∷◌, ◌≡◌, ◌≢◌}
+use Rattle.nap_command.proofs.Common.{All, All-nil, All-push, AnswersRequest, Appends, Appends-nil, Appends-trans, Bool, Buffered, Consumes, Consumes-nil, Consumes-trans, Ended, Exchange, FlushedTimes, IsExchange, List, Pipes, RunEnds, Session, StopsIn, StopsServing, [], ap, append-nil, append_assoc, arith, false, flat_map, flush_count, flushed_once, flushes_of, inr, length, length-append, min, refl, requests_limit, subst, suc, sym, true, zero, ℕ, ◌++◌, ◌+◌, ◌-◌, ◌^◌, ◌∙◌, ◌∷◌, ◌≡◌, ◌≢◌}
 use Rattle.nap_command.proofs.SessionLemmas.{answered_more, count_more, ends_after, read_on}
 
 -- The number of flushes.
@@ -90,30 +90,26 @@ ends before mid after buffered written n end h k =
       each_flushed = λ began. at_end end h.xs n before.flushes written (buffered ++ k.bytes) k.part mid after h.requests (h.each_flushed began) (h.output_works ∙ began) k.stops k.none_more;
     }
 
--- the run ends after the greatest number of requests
-pub ends_full : (before now : Pipes) (buffered : List ℕ) (written n : ℕ) → n ≡ requests_limit → Going before now buffered written n → Session before now Ended.Request
-ends_full before now buffered written n full h = record {
+-- the run ends after an answer, or before the first request
+rests : (end : Ended) (before now : Pipes) (buffered : List ℕ) (written n : ℕ) (h : Going before now buffered written n) → ((k : ℕ) → flushes_of end now.write_failed k ≡ k) →
+    RunEnds before now h.xs buffered [] end → Session before now end
+rests end before now buffered written n h same stops = record {
   exchanges = h.xs;
   each = h.each;
   rest = buffered;
   part = [];
   read = h.read;
   sent = subst (Appends before.taken now.taken) (sym (append-nil (flat_map (λ (y : Exchange). y.answered) h.xs))) h.sent;
-  ends = (refl, inr (h.requests ∙ full, h.input_works), h.output_works);
+  ends = stops;
   flushed = λ some works. h.flushed some;
-  each_flushed = λ began. times_of h.xs n before.flushes now.flushes now.flushes h.requests refl (h.each_flushed began);
+  each_flushed = λ began. rw (same (length h.xs)) (times_of h.xs n before.flushes now.flushes now.flushes h.requests refl (h.each_flushed began));
 }
 
--- the run ends before its first request, for lack of memory
+-- as many requests as allowed
+pub ends_full : (before now : Pipes) (buffered : List ℕ) (written n : ℕ) → n ≡ requests_limit → Going before now buffered written n → Session before now Ended.Request
+ends_full before now buffered written n full h = rests Ended.Request before now buffered written n h (λ k. refl) (refl, inr (h.requests ∙ full, h.input_works), h.output_works)
+
+-- lack of memory
 pub ends_unbegun : (p : Pipes) → Session p p Ended.Memory
-ends_unbegun p = record {
-  exchanges = [];
-  each = All-nil IsExchange;
-  rest = [];
-  part = [];
-  read = Consumes-nil p.left;
-  sent = Appends-nil p.taken;
-  ends = (refl, refl, refl, refl);
-  flushed = λ some works. absurd (some refl);
-  each_flushed = λ _. no_times p.flushes;
-}
+unfolding starts
+ends_unbegun p = rests Ended.Memory p p [] 0 0 (starts p) (λ k. refl) (refl, refl, refl, refl)

@@ -2,15 +2,15 @@ mod Common
 pub mod CommandLemmas
 pub mod AnswerLemmas
 pub mod ListingLemmas
-mod FrontLemmas
+pub mod FrontLemmas
 pub mod PlaceLemmas
-mod LineLemmas
+pub mod LineLemmas
 mod SessionLemmas
 mod WaitLemmas
 mod SendLemmas
 mod ExchangeLemmas
 mod GoingLemmas
-mod LawLemmas
+pub mod LawLemmas
 mod PlacingLemmas
 mod RunBounds
 mod CodeBounds

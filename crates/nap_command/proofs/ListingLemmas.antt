@@ -26,24 +26,13 @@ module _ {O : Type 0} (o : outlet.Ghosts O) (w : O) (works : o.failed w ≡ fals
     pub partly : ForPage (λ p seen. IsPartly (Finds c p seen) (Fails c p seen) q)
     pub ends : o.failed u ≡ false → ForPage (λ p seen. EndsListed c p seen q false (ended_so read))
 
-  -- the page is refused, and nothing was printed
-  none_printed : (u : O) (n : ℕ) (r : Refusal) → u ≡ w → n ≡ 0 → IsStreamRefusal c page r → Leaves u n (Err (TwiceFault.Refused r))
-  none_printed u n r output written refusal =
-      let fails : ForPage (λ p seen. Fails c p seen (Failure.Refused r)) = λ p seen whole streams. list_refuses c p page seen r list whole streams refusal in
-      record {
-        q = [];
-        grows = rw (output, written) (grows_none (sending o w 0));
-        partly = λ p seen whole streams. inr (Failure.Refused r, fails p seen whole streams, refl);
-        ends = λ clear p seen whole streams. (refl, fails p seen whole streams);
-      }
-
-  -- the page is accepted, and nothing was printed for lack of memory
-  none_begun : (u : O) (n : ℕ) → u ≡ w → n ≡ 0 → Leaves u n (Err TwiceFault.Memory)
-  none_begun u n output written = record {
+  -- nothing was printed
+  none_printed : (u : O) (n : ℕ) (why : TwiceFault) (f : Failure) → u ≡ w → n ≡ 0 → ended_so {S = CountSink} (Err why) ≡ Err f → ForPage (λ p seen. Fails c p seen f) → Leaves u n (Err why)
+  none_printed u n why f output written so fails = record {
     q = [];
     grows = rw (output, written) (grows_none (sending o w 0));
-    partly = λ p seen whole streams. inr (Failure.Memory, whole.none_failed, refl);
-    ends = λ clear p seen whole streams. (refl, whole.none_failed);
+    partly = λ p seen whole streams. inr (f, fails p seen whole streams, refl);
+    ends = λ clear p seen whole streams. rw so (refl, fails p seen whole streams);
   }
 
   module _ (accepted : (means c.budget page).refusal ≡ None) (u : O) (n : ℕ) (v : Printing O) where
@@ -97,11 +86,13 @@ module _ {O : Type 0} (o : outlet.Ghosts O) (w : O) (works : o.failed w ≡ fals
     by : (read : Result CountSink TwiceFault) → ReadsTwice g k s begun c.budget page v read → MatchResult read (λ _. Closes o v u n) (λ _. (u ≡ v.outlet) × (n ≡ v.written)) → Leaves u n read
     by (Ok t) (accepted, counted, took) closes = all_printed accepted u n v t (took_is v (means c.budget page).entries took) closes
     by (Err (TwiceFault.Refused r)) (inl (refused, same)) (output, written) =
-        none_printed u n r (output ∙ ap (λ (v : Printing O). v.outlet) same) (written ∙ ap (λ (v : Printing O). v.written) same) (refusal_by g s sound c page r.fault r.place refused)
+        none_printed u n (TwiceFault.Refused r) (Failure.Refused r) (output ∙ ap (λ (v : Printing O). v.outlet) same) (written ∙ ap (λ (v : Printing O). v.written) same) refl
+        (λ p seen whole streams. list_refuses c p page seen r list whole streams (refusal_by g s sound c page r.fault r.place refused))
     by (Err (TwiceFault.Refused r)) (inr (accepted, breaks_off)) (output, written) =
         breaks accepted r (cause_of r.fault) refl (breaks_off.lacks dry) breaks_off.broke.part output written
     by (Err TwiceFault.Memory) (accepted, same) (output, written) =
-        none_begun u n (output ∙ ap (λ (v : Printing O). v.outlet) same) (written ∙ ap (λ (v : Printing O). v.written) same)
+        none_printed u n TwiceFault.Memory Failure.Memory (output ∙ ap (λ (v : Printing O). v.outlet) same) (written ∙ ap (λ (v : Printing O). v.written) same) refl
+        (λ p seen whole streams. whole.none_failed)
 
     pub leaves : (printer : Printing O) → printer ≡ begun → (bytes : List ℕ) → bytes ≡ page → (read : Result CountSink TwiceFault) → IsReadTwice g k s printer c.budget bytes v read →
         MatchResult read (λ _. Closes o v u n) (λ _. (u ≡ v.outlet) × (n ≡ v.written)) → Leaves u n read

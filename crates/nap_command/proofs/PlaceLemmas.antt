@@ -48,6 +48,10 @@ alone [] one = absurd (omega (arith, one))
 alone (e ∷ []) one = (e, refl)
 alone (e ∷ f ∷ es) one = absurd (omega (arith, one))
 
+-- the lines that a refused page leaves, after those before
+abbrev pub BrokenAfter : Fault → ℕ → List ℕ → List ℕ → ℕ → ℕ → PlacesText → Type 0
+BrokenAfter f size all text place step r = f ≢ Fault.Memory → (es : List Entry) → AreNew size all es → r.text.items ≡ text ++ lines_on place step es
+
 module _ (budget : ℕ) (p : List ℕ) where
   -- what is known once this many bytes were read
   abbrev pub known : ℕ → List Entry
@@ -69,21 +73,17 @@ module _ (budget : ℕ) (p : List ℕ) where
       let (more, is) = more_bytes_keep_entries budget (take i p) (take k (drop i p)) in
       (more, sym (following i k) ∙ is)
 
-  -- the first of some bytes gives all entries that they give
-  firsts : (i n : ℕ) → ((k : ℕ) → 1 ≤ k → k ≤ n → known (i + k) ≡ known (i + 1)) → (k : ℕ) → suc k ≤ n →
-      places_before budget p (i + suc k) ≡ places_before budget p i ++ lines_at i (entries_added (known i) (known (i + 1)))
-  firsts i n same zero few = one_more i
-  firsts i n same (suc k) few =
-      let e : i + suc (suc k) ≡ (i + suc k) + 1 = omega arith in
-      let still : known ((i + suc k) + 1) ≡ known (i + suc k) = ap known (sym e) ∙ same (suc (suc k)) (omega arith) few ∙ sym (same (suc k) (omega arith) (omega (arith, few))) in
-      let none : came_with budget p (i + suc k) ≡ [] = ap (drop (length (known (i + suc k)))) still ∙ drop_all _ (known (i + suc k)) (omega arith) in
-      ap (places_before budget p) e
-      ∙ one_more (i + suc k)
-      ∙ ap (λ (es : List Entry). places_before budget p (i + suc k) ++ lines_at (i + suc k) es) none
-      ∙ append-nil (places_before budget p (i + suc k))
-      ∙ firsts i n same k (omega (arith, few))
+  -- bytes that give no entry
+  stay : (i n : ℕ) → ((k : ℕ) → k ≤ n → known (i + k) ≡ known i) → places_before budget p (i + n) ≡ places_before budget p i
+  stay i zero same = let e : i + 0 ≡ i = omega arith in ap (places_before budget p) e
+  stay i (suc n) same =
+      let e : i + suc n ≡ (i + n) + 1 = omega arith in
+      let still : known ((i + n) + 1) ≡ known (i + n) = ap known (sym e) ∙ same (suc n) (omega arith) ∙ sym (same n (omega arith)) in
+      let none : came_with budget p (i + n) ≡ [] = ap (drop (length (known (i + n)))) still ∙ drop_all _ (known (i + n)) (omega arith) in
+      ap (places_before budget p) e ∙ one_more (i + n) ∙ ap (λ (es : List Entry). places_before budget p (i + n) ++ lines_at (i + n) es) none
+      ∙ append-nil (places_before budget p (i + n)) ∙ stay i n (λ k few. same k (omega (arith, few)))
 
-  -- each of them gives one entry
+  -- bytes that give one entry each
   eachs : (i n : ℕ) → ((k : ℕ) → k ≤ n → length (known (i + k)) ≡ length (known i) + k) → (k : ℕ) → k ≤ n →
       places_before budget p (i + k) ≡ places_before budget p i ++ lines_on i 1 (entries_added (known i) (known (i + k)))
   eachs i n sized zero few =
@@ -116,8 +116,9 @@ module _ (budget : ℕ) (p : List ℕ) where
   written_more i (Ahead.First zero) some adds = absurd (omega (arith, some))
   written_more i (Ahead.First (suc k)) some adds =
       let same : (j : ℕ) → 1 ≤ j → j ≤ suc k → known (i + j) ≡ known (i + 1) = λ j least most. sym (following i j) ∙ adds j least most ∙ following i 1 in
+      let e : i + suc k ≡ (i + 1) + k = omega arith in
       ap (λ (bs : List ℕ). places_before budget p i ++ bs) (all_alike i (entries_added (known i) (known (i + suc k))) ∙ ap (λ (es : List Entry). lines_at i (entries_added (known i) es)) (same (suc k) (omega arith) (omega arith)))
-      ∙ sym (firsts i (suc k) same k (omega arith))
+      ∙ sym (ap (places_before budget p) e ∙ stay (i + 1) k (λ j few. let e : (i + 1) + j ≡ i + suc j = omega arith in ap known e ∙ same (suc j) (omega arith) (omega (arith, few))) ∙ one_more i)
   written_more i (Ahead.Each n) some adds = let sized : (j : ℕ) → j ≤ n → length (known (i + j)) ≡ length (known i) + j = λ j few. ap length (sym (following i j)) ∙ adds j few in
       sym (eachs i n sized n (omega arith))
 
@@ -126,13 +127,13 @@ module _ (budget : ℕ) (p : List ℕ) where
       ap (λ (bs : List ℕ). places_before budget p i ++ bs) (all_alike i (entries_added (begun budget p).entries (means budget p).entries))
       ∙ ap (λ (n : ℕ). places_before budget p n ++ lines_at n (entries_added (begun budget p).entries (means budget p).entries)) end
 
-  pub stops_so : (found : Result PlacesText AllocError) (q : Refusal) (text : List ℕ) → IfOk found (λ r. r.ended ≡ Err q) →
-      IfOk found (λ r. q.fault ≡ Fault.Memory → r.text.items ≡ []) → IfOk found (λ r. q.fault ≢ Fault.Memory → r.text.items ≡ text) →
-      (q.fault ≢ Fault.Memory → ((means budget p).refusal ≡ Some q) × (text ≡ places budget p)) → (q.fault ≡ Fault.Memory → BreaksWithin budget p q.place) →
+  pub stops_so : (found : Result PlacesText AllocError) (q : Refusal) (size place step : ℕ) (all text : List ℕ) (es : List Entry) → IfOk found (λ r. r.ended ≡ Err q) →
+      IfOk found (λ r. q.fault ≡ Fault.Memory → r.text.items ≡ []) → IfOk found (BrokenAfter q.fault size all text place step) → (q.fault ≢ Fault.Memory → AreNew size all es) →
+      (q.fault ≢ Fault.Memory → ((means budget p).refusal ≡ Some q) × (text ++ lines_on place step es ≡ places budget p)) → (q.fault ≡ Fault.Memory → BreaksWithin budget p q.place) →
       IfOk found (λ r. IsPlaced budget p r.text.items r.ended)
-  stops_so (Ok r) q text end empty own refused breaks =
-      subst (IsPlaced budget p r.text.items) (sym end) (record { refused = λ apart. let h = refused apart in (h.0, own apart ∙ h.1); memory = λ is. (breaks is, empty is) })
-  stops_so (Err e) q text end empty own refused breaks = tt
+  stops_so (Ok r) q size place step all text es end empty own fresh refused breaks =
+      subst (IsPlaced budget p r.text.items) (sym end) (record { refused = λ apart. let h = refused apart in (h.0, own apart es (fresh apart) ∙ h.1); memory = λ is. (breaks is, empty is) })
+  stops_so (Err e) q size place step all text es end empty own fresh refused breaks = tt
 
   -- Bytes after a refusal add no entry.
   module _ (i : ℕ) (r : Refusal) (refused : (begun budget (take i p)).refusal ≡ Some r) where
@@ -140,18 +141,6 @@ module _ (budget : ℕ) (p : List ℕ) where
     settled n more =
         let parts = sym (take-append-drop i (take n p)) ∙ ap (λ (front : List ℕ). front ++ drop i (take n p)) (take-take i n p more) in
         ap (begun budget) parts ∙ more_bytes_keep_refusal budget (take i p) (drop i (take n p)) r refused
-
-    nothing : (n : ℕ) → i ≤ n → came_with budget p n ≡ []
-    nothing n more =
-        let last : (begun budget (take (n + 1) p)).entries ≡ (begun budget (take n p)).entries = ap (λ (o : Outcome). o.entries) (settled (n + 1) (omega (arith, more)) ∙ sym (settled n more)) in
-        ap (drop (length (begun budget (take n p)).entries)) last ∙ drop_all _ (begun budget (take n p)).entries (omega arith)
-
-    stay : (k : ℕ) → places_before budget p (i + k) ≡ places_before budget p i
-    stay zero = let e : i + 0 ≡ i = omega arith in ap (places_before budget p) e
-    stay (suc k) =
-        let e : i + suc k ≡ (i + k) + 1 = omega arith in
-        ap (places_before budget p) e ∙ one_more (i + k) ∙ ap (λ (es : List Entry). places_before budget p (i + k) ++ lines_at (i + k) es) (nothing (i + k) (omega arith))
-        ∙ append-nil (places_before budget p (i + k)) ∙ stay k
 
     pub all_places : i ≤ length p → places budget p ≡ places_before budget p i
     all_places within =
@@ -163,7 +152,7 @@ module _ (budget : ℕ) (p : List ℕ) where
         ap (λ (o : Outcome). drop (length (begun budget p).entries) o.entries) same ∙ drop_all _ (begun budget p).entries (omega arith) in
         let e : length p ≡ i + (length p - i) = omega (arith, within) in
         ap (λ (es : List Entry). places_before budget p (length p) ++ lines_at (length p) es) none ∙ append-nil (places_before budget p (length p))
-        ∙ ap (places_before budget p) e ∙ stay (length p - i)
+        ∙ ap (places_before budget p) e ∙ stay i (length p - i) (λ k few. ap (λ (o : Outcome). o.entries) (settled (i + k) (omega arith)))
 
 pub broke_apart : {f : Fault} → f ≡ Fault.Memory → cause_of f ≡ stream → ⊥
 broke_apart is own = let other = ap cause_of (sym is) ∙ own in let bad : ⊥ = cc in bad
@@ -258,7 +247,3 @@ module _ (budget : ℕ) (p : List ℕ) (i : ℕ) (end : i ≡ length p) where
   last_count count is =
       let (more, grown) = begun_comes_first budget p in
       rw (is ∙ ap length all_known_last) (counted (begun budget p).entries (means budget p).entries more grown)
-
--- the lines that a refused page leaves, after those before
-abbrev pub BrokenAfter : Fault → ℕ → List ℕ → List ℕ → ℕ → ℕ → PlacesText → Type 0
-BrokenAfter f size all text place step r = f ≢ Fault.Memory → (es : List Entry) → AreNew size all es → r.text.items ≡ text ++ lines_on place step es

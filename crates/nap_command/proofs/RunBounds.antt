@@ -1,7 +1,6 @@
-use Rattle.nap_command.proofs.Common.{Area, Attributes, Base, Bool, CharSet, CharSize, Colour, Components, Coordinates, Displacement, DrawFault, Drawing, Entry, Err, GSet, List, None, Ok, Opcode, Option, Pen, Piece, Result, RuleResult, Some, State, TextEnd, TextLook, TextStep, Texture, Two, Work, [], absolute_spans, addr_bytes, addr_size, after, and_then, arc_on, arc_points, area_bytes, area_of, arith, at_least_one, at_most_limit, attributes, base_commands, blink, blinks, char_piece, circle_closed, colour_commands, colour_of, colour_prelude, command_piece, complete_pairs, cons_if_all, control, corner, cut_operands, displaced_point, displacement_bytes, displacements_size, domain_again, domain_in, domain_rule, entries_result, entry_pieces, entry_result, false, field_on, first_and_more, flag_commands, from_pen, given_size_commands, gl_of, grb_bytes, grb_size, group, if◌then◌else◌, is_known, joins_open_run, length, length-append, length-map, line_between, line_piece, map, map_rule, mask_commands, move_size, moves, moves_of, multi_of, named_size_commands, nat_lt, operands, option_and_then, option_map, pel_prelude, pen_commands, pen_point, pen_prelude, pen_result, piece_bytes, pieces, pieces_bytes, point_at, point_bytes, point_entry, point_size, points_at, points_reached, poly_on, poly_points, polyline_spans, prelude, primary, rect_chain_spans, rect_on, refl, relative_spans, rule, rule_result, same_base, same_colour, same_flag, same_move, same_pen, same_size, same_texture, set_color_rule, set_color_under, shape_bytes, shape_from_pen, shape_from_point, shift_to_opcodes, shift_to_primary, slice_index, span, span_by, span_line_entry, spelling_pieces, step_bytes, steps_limit, suc, text_end_after_piece, text_prelude, texture_prelude, true, unless, with_attributes, with_domain, with_map_colour, with_operands, with_pairs, word_byte, words_commands, zero, ℕ, ◌%◌, ◌&&◌, ◌*◌, ◌++◌, ◌+◌, ◌-◌, ◌/◌, ◌==◌, ◌∷◌, ◌≡◌, ◌≤◌}
-use Rattle.nap_canon.specs.Spelling.{opcode}
+use Rattle.nap_command.proofs.Common.{Area, Attributes, Base, Bool, CharSet, CharSize, Colour, Components, Coordinates, Displacement, DrawFault, Drawing, Entry, Err, GSet, IfOk, List, None, Ok, Opcode, Option, Pen, Piece, Result, RuleResult, Some, State, TextEnd, TextLook, TextStep, Texture, Two, Work, [], absolute_spans, addr_bytes, addr_size, after, and_then, arc_on, arc_points, area_of, arith, at_least_one, at_most_limit, attributes, base_commands, blink, blinks, char_piece, circle_closed, colour_commands, colour_of, colour_prelude, command_piece, complete_pairs, cons_if_all, control, corner, cut_operands, displaced_point, displacement_bytes, displacements_size, domain_again, domain_in, domain_rule, entries_result, entry_pieces, entry_result, false, first_and_more, flag_commands, from_pen, given_size_commands, gl_of, grb_bytes, grb_size, group, if◌then◌else◌, length, length-append, length-map, line_piece, map, map_rule, mask_commands, move_size, moves, moves_of, multi_of, named_size_commands, nat_lt, opcode, operands, option_and_then, option_map, pel_prelude, pen_point, pen_prelude, pen_result, piece_bytes, pieces, pieces_bytes, point_at, point_bytes, point_entry, point_size, points_at, points_reached, poly_on, poly_points, polyline_spans, prelude, primary, rect_chain_spans, rect_on, refl, relative_spans, rule, rule_result, same_base, same_colour, same_flag, same_move, same_pen, same_size, same_texture, set_color_rule, set_color_under, shape_bytes, shape_from_pen, shape_from_point, shift_to_opcodes, shift_to_primary, span, span_by, span_line_entry, spelling_pieces, step_bytes, steps_limit, suc, text_end_after_piece, text_prelude, texture_prelude, true, unless, with_attributes, with_domain, with_operands, with_pairs, word_byte, words_commands, zero, ℕ, ◌%◌, ◌&&◌, ◌*◌, ◌++◌, ◌+◌, ◌-◌, ◌/◌, ◌<◌, ◌==◌, ◌∷◌, ◌≡◌, ◌≤◌}
 
--- How many entries an opcode adds.
+-- How much an opcode adds.
 
 -- the number of points of arcs and polygons
 
@@ -14,28 +13,18 @@ abbrev pub points_in : List Entry → ℕ
 points_in [] = 0
 points_in (e ∷ es) = points_of e + points_in es
 
--- entries are at most n, and have at most q points in arcs and polygons
-pub record Few (n q : ℕ) (es : List Entry) : Type 0 where
-  pub count : length es ≤ n
-  pub points : points_in es ≤ q
+-- entries weigh 90 each, and 8 for each of these points
+abbrev pub weight : List Entry → ℕ
+weight es = 90 * length es + 8 * points_in es
 
--- a result has few entries
-abbrev pub AddsAtMost : ℕ → ℕ → Result RuleResult DrawFault → Type 0
-AddsAtMost n q (Ok drawn) = Few n q drawn.entries
-AddsAtMost n q (Err fault) = Unit {0}
+-- the entries of a result weigh at most w
+abbrev pub Adds : ℕ → Result RuleResult DrawFault → Type 0
+Adds w (Ok drawn) = weight drawn.entries ≤ w
+Adds w (Err fault) = Unit {0}
 
-pub few_none : (n q : ℕ) → Few n q []
-few_none n q = record { count = omega arith; points = omega arith }
-
-pub few_one : (n q : ℕ) (e : Entry) → points_of e ≤ q → Few (suc n) q (e ∷ [])
-few_one n q e h = record { count = omega arith; points = omega (arith, h) }
-
-few_each : {A : Type 0} (n q : ℕ) (f : A → Entry) (xs : List A) → length xs ≤ n → ((x : A) → points_of (f x) ≡ 0) → Few n q (map f xs)
-few_each {A = A} n q f xs few plain = record { count = omega (arith, few, length-map xs f); points = omega (arith, none xs) }
-  where
-    none : (xs : List A) → points_in (map f xs) ≡ 0
-    none [] = refl
-    none (x ∷ xs) = omega (arith, plain x, none xs)
+each_weighs : {A : Type 0} (f : A → Entry) (xs : List A) → ((x : A) → points_of (f x) ≡ 0) → weight (map f xs) ≡ 90 * length xs
+each_weighs f [] plain = refl
+each_weighs f (x ∷ xs) plain = omega (arith, plain x, each_weighs f xs plain)
 
 -- a list, if there is one, has at most n items
 abbrev HasAtMost : {A : Type 0} → ℕ → Option (List A) → Type 0
@@ -60,214 +49,178 @@ moves_few k run = omega (arith, length-map (operands k run) multi_of, operands_f
 
 -- points and spans
 
-cons_few : {A : Type 0} (n : ℕ) (x : Option A) (next : A → Option (List A)) → ((a : A) → HasAtMost n (next a)) → HasAtMost (suc n) (cons_if_all x next)
-cons_few n None next few = tt
-cons_few {A = A} n (Some x) next few = by (next x) (few x)
-  where
-    by : (o : Option (List A)) → HasAtMost n o → HasAtMost (suc n) (option_map (λ xs. x ∷ xs) o)
-    by None h = tt
-    by (Some xs) h = omega (arith, h)
+map_few : {A B : Type 0} (m n : ℕ) (f : List A → List B) (o : Option (List A)) → ((xs : List A) → length xs ≤ m → length (f xs) ≤ n) → HasAtMost m o → HasAtMost n (option_map f o)
+map_few m n f None few h = tt
+map_few m n f (Some xs) few h = few xs h
+
+cons_few : {A : Type 0} (m n : ℕ) (x : Option A) (next : A → Option (List A)) → m < n → ((a : A) → HasAtMost m (next a)) → HasAtMost n (cons_if_all x next)
+cons_few m n None next less few = tt
+cons_few m n (Some x) next less few = map_few m n (λ xs. x ∷ xs) (next x) (λ xs h. omega (arith, h, less)) (few x)
 
 points_few : (ms : List Displacement) → HasAtMost (length ms) (points_at ms)
 unfolding points_at
 points_few [] = omega arith
-points_few (m ∷ ms) = cons_few (length ms) (point_at m) (λ _. points_at ms) (λ _. points_few ms)
+points_few (m ∷ ms) = cons_few (length ms) _ (point_at m) _ (omega arith) (λ _. points_few ms)
 
 reached_few : (p : Coordinates) (ms : List Displacement) → HasAtMost (length ms) (points_reached p ms)
 unfolding points_reached
 reached_few p [] = omega arith
-reached_few p (m ∷ ms) = cons_few (length ms) (displaced_point p m) (λ q. points_reached q ms) (λ q. reached_few q ms)
+reached_few p (m ∷ ms) = cons_few (length ms) _ (displaced_point p m) _ (omega arith) (λ q. reached_few q ms)
 
 polyline_few : (p : Coordinates) (qs : List Coordinates) → length (polyline_spans p qs) ≤ length qs
 unfolding polyline_spans
 polyline_few p [] = omega arith
 polyline_few p (q ∷ qs) = omega (arith, polyline_few q qs)
 
-more_few : {A : Type 0} (m n : ℕ) (o : Option (List A)) → m ≤ n → HasAtMost m o → HasAtMost n o
-more_few m n None h k = tt
-more_few m n (Some xs) h k = omega (arith, h, k)
-
 absolute_few : (ms : List Displacement) → HasAtMost (length ms) (absolute_spans ms)
 unfolding absolute_spans
 absolute_few [] = omega arith
 absolute_few (m ∷ []) = tt
-absolute_few (m ∷ n ∷ ms) =
-    more_few (suc (length ms)) (suc (suc (length ms))) (cons_if_all (span (point_at m) (point_at n)) (λ _. absolute_spans ms)) (omega arith)
-    (cons_few (length ms) (span (point_at m) (point_at n)) (λ _. absolute_spans ms) (λ _. absolute_few ms))
+absolute_few (m ∷ n ∷ ms) = cons_few (length ms) _ (span (point_at m) (point_at n)) _ (omega arith) (λ _. absolute_few ms)
 
 relative_few : (ms : List Displacement) → HasAtMost (length ms) (relative_spans ms)
 unfolding relative_spans
 relative_few [] = omega arith
 relative_few (m ∷ []) = tt
-relative_few (m ∷ n ∷ ms) =
-    more_few (suc (length ms)) (suc (suc (length ms))) (cons_if_all (span_by (point_at m) n) (λ _. relative_spans ms)) (omega arith)
-    (cons_few (length ms) (span_by (point_at m) n) (λ _. relative_spans ms) (λ _. relative_few ms))
+relative_few (m ∷ n ∷ ms) = cons_few (length ms) _ (span_by (point_at m) n) _ (omega arith) (λ _. relative_few ms)
 
 chain_few : (p : Coordinates) (ms : List Displacement) → HasAtMost (length ms) (rect_chain_spans p ms)
 unfolding rect_chain_spans
 chain_few p [] = omega arith
-chain_few p (m ∷ ms) = cons_few (length ms) (span_by (Some p) m) (λ s. rect_chain_spans (corner s.from s.to) ms) (λ s. chain_few (corner s.from s.to) ms)
+chain_few p (m ∷ ms) = cons_few (length ms) _ (span_by (Some p) m) _ (omega arith) (λ s. chain_few (corner s.from s.to) ms)
 
-lines_few : (p : Coordinates) (n : ℕ) (o : Option (List Coordinates)) → HasAtMost n o → HasAtMost n (option_map (polyline_spans p) o)
-lines_few p n None h = tt
-lines_few p n (Some qs) h = omega (arith, polyline_few p qs, h)
+closed_few : (p : Coordinates) (n : ℕ) (qs : List Coordinates) → length qs ≤ n → length (circle_closed (p ∷ qs)) ≤ n + 2
+closed_few p n (q ∷ []) h = omega (arith, h)
+closed_few p n _ h = omega (arith, h)
 
--- results
+arc_few : (p : Coordinates) (ms : List Displacement) → HasAtMost (length ms + 2) (arc_points p ms)
+arc_few p ms = map_few (length ms) _ _ (points_reached p ms) (closed_few p (length ms)) (reached_few p ms)
 
-pub none_added : (n q : ℕ) (work : Work) (o : Option (List Coordinates)) → AddsAtMost n q (pen_result work o)
-none_added n q work None = tt
-none_added n q work (Some points) = few_none n q
+poly_few : (p : Coordinates) (ms : List Displacement) → HasAtMost (length ms + 2) (poly_points p ms)
+poly_few p ms = map_few (length ms) _ _ (points_reached p ms) (λ qs h. omega (arith, h)) (reached_few p ms)
+
+lines_few : (p : Coordinates) (ms : List Displacement) (o : Option (List Coordinates)) → HasAtMost (length ms) o → HasAtMost (length ms) (option_map (polyline_spans p) o)
+lines_few p ms o h = map_few (length ms) _ _ o (λ qs k. omega (arith, polyline_few p qs, k)) h
+
+-- what is added after a value, if there is one with P
+then_adds : {A : Type 0} (w : ℕ) (P : A → Type 0) (r : Result A DrawFault) (f : A → Result RuleResult DrawFault) → IfOk r P → ((a : A) → P a → Adds w (f a)) → Adds w (and_then r f)
+then_adds w P (Ok a) f h few = few a h
+then_adds w P (Err fault) f h few = tt
+
+after_any : {A : Type 0} (w : ℕ) (r : Result A DrawFault) (f : A → Result RuleResult DrawFault) → ((a : A) → Adds w (f a)) → Adds w (and_then r f)
+after_any w (Ok a) f few = few a
+after_any w (Err fault) f few = tt
 
 module _ (work : Work) (run : List ℕ) where
-  -- what is added for the operands, if there are at most as many as words
-  operands_add : (n q : ℕ) (f : List Displacement → Result RuleResult DrawFault) → ((ms : List Displacement) → length ms ≤ length run → AddsAtMost n q (f ms)) → AddsAtMost n q (with_operands work run f)
-  operands_add n q f few = by (moves_of work run) (moves_few work.domain.multi run)
-    where
-      by : (ms : List Displacement) → length ms ≤ length run → AddsAtMost n q (and_then (at_least_one ms) f)
-      by [] h = tt
-      by (m ∷ ms) h = few (m ∷ ms) h
+  abbrev most : ℕ
+  most = 98 * length run + 106
 
-  pairs_add : (n q : ℕ) (f : List Displacement → Result RuleResult DrawFault) → ((ms : List Displacement) → length ms ≤ length run → AddsAtMost n q (f ms)) → AddsAtMost n q (with_pairs work run f)
-  pairs_add n q f few = by (moves_of work run) (moves_few work.domain.multi run)
-    where
-      when : (b : Bool) (m : Displacement) (ms : List Displacement) → length (m ∷ ms) ≤ length run → AddsAtMost n q (and_then (if b then Ok (m ∷ ms) else Err DrawFault.Missing) f)
-      when true m ms h = few (m ∷ ms) h
-      when false m ms h = tt
+  abbrev Short : List Displacement → Type 0
+  Short ms = length ms ≤ length run
 
-      by : (ms : List Displacement) → length ms ≤ length run → AddsAtMost n q (and_then (complete_pairs ms) f)
-      by [] h = tt
-      by (m ∷ ms) h = when (length ms % 2 == 1) m ms h
+  some_short : (ms : List Displacement) → Short ms → IfOk (at_least_one ms) Short
+  some_short [] h = tt
+  some_short (m ∷ ms) h = h
 
-  pen_adds : (n q : ℕ) (f : Coordinates → List Displacement → Result RuleResult DrawFault) → ((p : Coordinates) (ms : List Displacement) → length ms ≤ length run → AddsAtMost n q (f p ms)) → AddsAtMost n q (from_pen work run f)
-  pen_adds n q f few = operands_add n q (λ ms. and_then (pen_point work.state.drawing.pen) (λ p. f p ms)) (λ ms h. by (pen_point work.state.drawing.pen) ms h)
-    where
-      by : (r : Result Coordinates DrawFault) (ms : List Displacement) → length ms ≤ length run → AddsAtMost n q (and_then r (λ p. f p ms))
-      by (Ok p) ms h = few p ms h
-      by (Err fault) ms h = tt
+  pairs_short : (ms : List Displacement) → Short ms → IfOk (complete_pairs ms) Short
+  pairs_short [] h = tt
+  pairs_short (m ∷ ms) h = elim (length ms % 2 == 1) as (λ b. IfOk (if b then Ok (m ∷ ms) else Err DrawFault.Missing) Short) [ true ↦ h | false ↦ tt ]
 
-  -- what is added for each point, each span, or the one shape
-  each_adds : {A : Type 0} (entry : Drawing → A → Entry) (n : ℕ) (o : Option (List A)) → ((a : A) → points_of (entry work.state.drawing a) ≡ 0) → n ≤ length run → HasAtMost n o → AddsAtMost (suc (length run)) (length run + 2) (entries_result work entry o)
+  more_short : (ms : List Displacement) → Short ms → IfOk (first_and_more ms) (λ x. Short x.1)
+  more_short [] h = tt
+  more_short (m ∷ []) h = tt
+  more_short (m ∷ n ∷ ms) h = omega (arith, h)
+
+  limited_short : (ms : List Displacement) → Short ms → IfOk (at_most_limit ms) Short
+  limited_short ms h = elim (nat_lt steps_limit (length ms)) as (λ b. IfOk (if b then Err DrawFault.ManyPoints else Ok ms) Short) [ true ↦ tt | false ↦ h ]
+
+  operands_add : (f : List Displacement → Result RuleResult DrawFault) → ((ms : List Displacement) → Short ms → Adds most (f ms)) → Adds most (with_operands work run f)
+  operands_add f few = then_adds most Short (at_least_one (moves_of work run)) f (some_short _ (moves_few work.domain.multi run)) few
+
+  pairs_add : (f : List Displacement → Result RuleResult DrawFault) → ((ms : List Displacement) → Short ms → Adds most (f ms)) → Adds most (with_pairs work run f)
+  pairs_add f few = then_adds most Short (complete_pairs (moves_of work run)) f (pairs_short _ (moves_few work.domain.multi run)) few
+
+  pen_adds : (f : Coordinates → List Displacement → Result RuleResult DrawFault) → ((p : Coordinates) (ms : List Displacement) → Short ms → Adds most (f p ms)) → Adds most (from_pen work run f)
+  pen_adds f few = operands_add _ (λ ms h. after_any most (pen_point work.state.drawing.pen) (λ p. f p ms) (λ p. few p ms h))
+
+  -- the pen moves, or there is an entry for each of some values, or for all points
+  none_added : (o : Option (List Coordinates)) → Adds most (pen_result work o)
+  none_added None = tt
+  none_added (Some points) = omega arith
+
+  each_adds : {A : Type 0} (entry : Drawing → A → Entry) (n : ℕ) (o : Option (List A)) → ((a : A) → points_of (entry work.state.drawing a) ≡ 0) → n ≤ length run → HasAtMost n o → Adds most (entries_result work entry o)
   each_adds entry n None plain k h = tt
-  each_adds entry n (Some xs) plain k h = few_each (suc (length run)) (length run + 2) (entry work.state.drawing) xs (omega (arith, k, h)) plain
+  each_adds entry n (Some xs) plain k h = omega (arith, k, h, each_weighs (entry work.state.drawing) xs plain)
 
-  shape_adds : (entry : Drawing → List Coordinates → Entry) (n : ℕ) (o : Option (List Coordinates)) → ((ps : List Coordinates) → points_of (entry work.state.drawing ps) ≡ length ps) → n ≤ length run → HasAtMost (n + 2) o →
-      AddsAtMost (suc (length run)) (length run + 2) (entry_result work entry o)
+  shape_adds : (entry : Drawing → List Coordinates → Entry) (n : ℕ) (o : Option (List Coordinates)) → ((ps : List Coordinates) → points_of (entry work.state.drawing ps) ≡ length ps) → n ≤ length run → HasAtMost (n + 2) o → Adds most (entry_result work entry o)
   shape_adds entry n None drawn k h = tt
-  shape_adds entry n (Some ps) drawn k h = few_one (length run) (length run + 2) (entry work.state.drawing ps) (omega (arith, drawn ps, k, h))
-
-  -- what a shape through displacements adds, if there are few enough
-  limited_adds : (ms : List Displacement) (f : List Displacement → Result RuleResult DrawFault) → AddsAtMost (suc (length run)) (length run + 2) (f ms) → (b : Bool) → AddsAtMost (suc (length run)) (length run + 2) (and_then (if b then Err DrawFault.ManyPoints else Ok ms) f)
-  limited_adds ms f few true = tt
-  limited_adds ms f few false = few
-
-  after_pen : (f : Coordinates → Result RuleResult DrawFault) (r : Result Coordinates DrawFault) → ((p : Coordinates) → AddsAtMost (suc (length run)) (length run + 2) (f p)) → AddsAtMost (suc (length run)) (length run + 2) (and_then r f)
-  after_pen f (Ok p) few = few p
-  after_pen f (Err fault) few = tt
+  shape_adds entry n (Some ps) drawn k h = omega (arith, drawn ps, k, h)
 
   module _ (entry : Drawing → List Coordinates → Entry) (points : Coordinates → List Displacement → Option (List Coordinates)) (drawn : (ps : List Coordinates) → points_of (entry work.state.drawing ps) ≡ length ps)
       (reached : (p : Coordinates) (ms : List Displacement) → HasAtMost (length ms + 2) (points p ms)) where
-    from_pen_adds : AddsAtMost (suc (length run)) (length run + 2) (shape_from_pen work run entry points)
+    from_pen_adds : Adds most (shape_from_pen work run entry points)
     from_pen_adds =
-        operands_add (suc (length run)) (length run + 2) (λ ms. and_then (at_most_limit ms) (λ ms. and_then (pen_point work.state.drawing.pen) (λ p. entry_result work entry (points p ms)))) (λ ms h.
-        limited_adds ms (λ ms. and_then (pen_point work.state.drawing.pen) (λ p. entry_result work entry (points p ms)))
-        (after_pen (λ p. entry_result work entry (points p ms)) (pen_point work.state.drawing.pen) (λ p. shape_adds entry (length ms) (points p ms) drawn h (reached p ms)))
-        (nat_lt steps_limit (length ms)))
+        operands_add _ (λ ms h. then_adds most Short (at_most_limit ms) _ (limited_short ms h) (λ ms h.
+        after_any most (pen_point work.state.drawing.pen) _ (λ p. shape_adds entry (length ms) (points p ms) drawn h (reached p ms))))
 
-    from_point_adds : AddsAtMost (suc (length run)) (length run + 2) (shape_from_point work run entry points)
-    from_point_adds = by (moves_of work run) (moves_few work.domain.multi run)
-      where
-        at : (ms : List Displacement) (o : Option Coordinates) → HasAtMost (length ms + 2) (option_and_then (λ p. points p ms) o)
-        at ms None = tt
-        at ms (Some p) = reached p ms
+    at : (ms : List Displacement) (o : Option Coordinates) → HasAtMost (length ms + 2) (option_and_then (λ p. points p ms) o)
+    at ms None = tt
+    at ms (Some p) = reached p ms
 
-        by : (ms : List Displacement) → length ms ≤ length run → AddsAtMost (suc (length run)) (length run + 2) (and_then (first_and_more ms) (λ (m, ms). and_then (at_most_limit ms) (λ ms. entry_result work entry (option_and_then (λ p. points p ms) (point_at m)))))
-        by [] h = tt
-        by (m ∷ []) h = tt
-        by (m ∷ n ∷ ms) h =
-            limited_adds (n ∷ ms) (λ ms. entry_result work entry (option_and_then (λ p. points p ms) (point_at m)))
-            (shape_adds entry (length (n ∷ ms)) (option_and_then (λ p. points p (n ∷ ms)) (point_at m)) drawn (omega (arith, h)) (at (n ∷ ms) (point_at m)))
-            (nat_lt steps_limit (length (n ∷ ms)))
+    from_point_adds : Adds most (shape_from_point work run entry points)
+    from_point_adds =
+        then_adds most (λ x. Short x.1) (first_and_more (moves_of work run)) _ (more_short _ (moves_few work.domain.multi run)) (λ x h.
+        then_adds most Short (at_most_limit x.1) _ (limited_short x.1 h) (λ ms h. shape_adds entry (length ms) _ drawn h (at ms (point_at x.0))))
 
-  domain_adds : (words : List ℕ) → AddsAtMost (suc (length run)) (length run + 2) (domain_rule work words)
+  domain_adds : (words : List ℕ) → Adds most (domain_rule work words)
   domain_adds [] = tt
-  domain_adds (word ∷ words) = by (word / 32 == 1)
-    where
-      by : (b : Bool) → AddsAtMost (suc (length run)) (length run + 2) (if b then Err DrawFault.ThreeD else Ok (rule_result (with_domain work (domain_in word) words) []))
-      by true = tt
-      by false = few_none (suc (length run)) (length run + 2)
+  domain_adds (word ∷ words) =
+      elim (word / 32 == 1) as (λ b. Adds most (if b then Err DrawFault.ThreeD else Ok (rule_result (with_domain work (domain_in word) words) []))) [ true ↦ tt | false ↦ omega arith ]
 
-  field_adds : (r : Result Area DrawFault) → AddsAtMost (suc (length run)) (length run + 2) (and_then r (λ area. entry_result work field_on (Some area)))
-  field_adds (Ok area) = few_one (length run) (length run + 2) (field_on work.state.drawing area) (omega arith)
-  field_adds (Err fault) = tt
+  map_adds : (a : ℕ) (grb : Components) → Adds most (map_rule work a grb)
+  map_adds a grb = grind arith
 
-  map_adds : (a : ℕ) (grb : Components) → AddsAtMost (suc (length run)) (length run + 2) (map_rule work a grb)
-  map_adds a grb = by (is_known a grb work.state.known)
-    where
-      by : (b : Bool) → AddsAtMost (suc (length run)) (length run + 2) (if b then Ok (rule_result work []) else Ok (record { entries = Entry.Map a grb ∷ []; work = record work { state = with_map_colour work.state a grb }; clears = false }))
-      by true = few_none (suc (length run)) (length run + 2)
-      by false = few_one (length run) (length run + 2) (Entry.Map a grb) (omega arith)
-
-  colour_adds : (colour : Colour) (grb : Components) → AddsAtMost (suc (length run)) (length run + 2) (set_color_under work colour grb)
+  colour_adds : (colour : Colour) (grb : Components) → Adds most (set_color_under work colour grb)
   colour_adds (Colour.Front a) grb = map_adds a grb
   colour_adds (Colour.Pair a b) grb = map_adds a grb
   colour_adds (Colour.ByReset preset) grb = tt
-  colour_adds _ grb = few_none (suc (length run)) (length run + 2)
+  colour_adds _ grb = omega arith
 
-  set_color_adds : (groups : List (List ℕ)) → AddsAtMost (suc (length run)) (length run + 2) (set_color_rule work groups)
-  set_color_adds [] = tt
+  set_color_adds : (groups : List (List ℕ)) → Adds most (set_color_rule work groups)
   set_color_adds (one ∷ []) = colour_adds work.state.drawing.colour (colour_of one)
-  set_color_adds (one ∷ other ∷ more) = tt
+  set_color_adds _ = tt
 
-  blinks_add : (k : ℕ) (groups : List (List ℕ)) → length groups ≤ length run → Few (suc (length run)) (length run + 2) (blinks k work.state.drawing.colour groups)
-  blinks_add k [] h = few_one (length run) (length run + 2) (Entry.BlinkEnd work.state.drawing.colour) (omega arith)
-  blinks_add k (one ∷ groups) h = few_each (suc (length run)) (length run + 2) (blink k work.state.drawing.colour) (one ∷ groups) (omega (arith, h)) (λ _. refl)
+  blinks_add : (k : ℕ) (groups : List (List ℕ)) → length groups ≤ length run → weight (blinks k work.state.drawing.colour groups) ≤ most
+  blinks_add k [] h = omega arith
+  blinks_add k (one ∷ groups) h = omega (arith, h, each_weighs (blink k work.state.drawing.colour) (one ∷ groups) (λ _. refl))
 
-arc_few : (p : Coordinates) (ms : List Displacement) → HasAtMost (length ms + 2) (arc_points p ms)
-arc_few p ms = by (points_reached p ms) (reached_few p ms)
-  where
-    closed : (qs : List Coordinates) → length qs ≤ length ms → length (circle_closed (p ∷ qs)) ≤ length ms + 2
-    closed (q ∷ []) h = omega (arith, h)
-    closed _ h = omega (arith, h)
-
-    by : (o : Option (List Coordinates)) → HasAtMost (length ms) o → HasAtMost (length ms + 2) (option_map (λ qs. circle_closed (p ∷ qs)) o)
-    by None h = tt
-    by (Some qs) h = closed qs h
-
-poly_few : (p : Coordinates) (ms : List Displacement) → HasAtMost (length ms + 2) (poly_points p ms)
-poly_few p ms = by (points_reached p ms) (reached_few p ms)
-  where
-    by : (o : Option (List Coordinates)) → HasAtMost (length ms) o → HasAtMost (length ms + 2) (option_map (λ qs. p ∷ qs) o)
-    by None h = tt
-    by (Some qs) h = omega (arith, h)
-
-pub rule_adds : (work : Work) (op : Opcode) (run : List ℕ) → AddsAtMost (suc (length run)) (length run + 2) (rule work op run)
-rule_adds work Opcode.Reset run = few_one (length run) (length run + 2) (Entry.Reset (slice_index run 0) (slice_index run 1) work.state.drawing.pen) (omega arith)
-rule_adds work Opcode.Domain run = domain_adds work run run
-rule_adds work Opcode.PointSetAbs run = operands_add work run (suc (length run)) (length run + 2) _ (λ ms h. none_added (suc (length run)) (length run + 2) work (points_at ms))
-rule_adds work Opcode.PointSetRel run = pen_adds work run (suc (length run)) (length run + 2) _ (λ p ms h. none_added (suc (length run)) (length run + 2) work (points_reached p ms))
-rule_adds work Opcode.PointAbs run = operands_add work run (suc (length run)) (length run + 2) _ (λ ms h. each_adds work run point_entry (length ms) (points_at ms) (λ _. refl) h (points_few ms))
-rule_adds work Opcode.PointRel run = pen_adds work run (suc (length run)) (length run + 2) _ (λ p ms h. each_adds work run point_entry (length ms) (points_reached p ms) (λ _. refl) h (reached_few p ms))
-rule_adds work Opcode.LineAbs run = pen_adds work run (suc (length run)) (length run + 2) _ (λ p ms h. each_adds work run span_line_entry (length ms) (option_map (polyline_spans p) (points_at ms)) (λ _. refl) h (lines_few p (length ms) (points_at ms) (points_few ms)))
-rule_adds work Opcode.LineRel run = pen_adds work run (suc (length run)) (length run + 2) _ (λ p ms h. each_adds work run span_line_entry (length ms) (option_map (polyline_spans p) (points_reached p ms)) (λ _. refl) h (lines_few p (length ms) (points_reached p ms) (reached_few p ms)))
-rule_adds work Opcode.SetLineAbs run = pairs_add work run (suc (length run)) (length run + 2) _ (λ ms h. each_adds work run span_line_entry (length ms) (absolute_spans ms) (λ _. refl) h (absolute_few ms))
-rule_adds work Opcode.SetLineRel run = pairs_add work run (suc (length run)) (length run + 2) _ (λ ms h. each_adds work run span_line_entry (length ms) (relative_spans ms) (λ _. refl) h (relative_few ms))
-rule_adds work Opcode.ArcOutlined run = from_pen_adds work run (arc_on false) arc_points (λ _. refl) arc_few
-rule_adds work Opcode.ArcFilled run = from_pen_adds work run (arc_on true) arc_points (λ _. refl) arc_few
-rule_adds work Opcode.SetArcOutlined run = from_point_adds work run (arc_on false) arc_points (λ _. refl) arc_few
-rule_adds work Opcode.SetArcFilled run = from_point_adds work run (arc_on true) arc_points (λ _. refl) arc_few
-rule_adds work Opcode.RectOutlined run = pen_adds work run (suc (length run)) (length run + 2) _ (λ p ms h. each_adds work run (rect_on false) (length ms) (rect_chain_spans p ms) (λ _. refl) h (chain_few p ms))
-rule_adds work Opcode.RectFilled run = pen_adds work run (suc (length run)) (length run + 2) _ (λ p ms h. each_adds work run (rect_on true) (length ms) (rect_chain_spans p ms) (λ _. refl) h (chain_few p ms))
-rule_adds work Opcode.SetRectOutlined run = pairs_add work run (suc (length run)) (length run + 2) _ (λ ms h. each_adds work run (rect_on false) (length ms) (relative_spans ms) (λ _. refl) h (relative_few ms))
-rule_adds work Opcode.SetRectFilled run = pairs_add work run (suc (length run)) (length run + 2) _ (λ ms h. each_adds work run (rect_on true) (length ms) (relative_spans ms) (λ _. refl) h (relative_few ms))
-rule_adds work Opcode.PolyOutlined run = from_pen_adds work run (poly_on false) poly_points (λ _. refl) poly_few
-rule_adds work Opcode.PolyFilled run = from_pen_adds work run (poly_on true) poly_points (λ _. refl) poly_few
-rule_adds work Opcode.SetPolyOutlined run = from_point_adds work run (poly_on false) poly_points (λ _. refl) poly_few
-rule_adds work Opcode.SetPolyFilled run = from_point_adds work run (poly_on true) poly_points (λ _. refl) poly_few
-rule_adds work Opcode.Field run = field_adds work run (area_of work (moves_of work run))
-rule_adds work Opcode.SetColor run = set_color_adds work run (operands work.domain.multi run)
-rule_adds work Opcode.Wait run = few_each (suc (length run)) (length run + 2) Entry.Wait run (omega arith) (λ _. refl)
-rule_adds work Opcode.Blink run = blinks_add work run work.domain.single (operands (work.domain.single + 3) run) (operands_few (work.domain.single + 3) run)
-rule_adds work _ run = few_none (suc (length run)) (length run + 2)
+  pub rule_adds : (op : Opcode) → Adds most (rule work op run)
+  rule_adds Opcode.Domain = domain_adds run
+  rule_adds Opcode.PointSetAbs = operands_add _ (λ ms h. none_added (points_at ms))
+  rule_adds Opcode.PointSetRel = pen_adds _ (λ p ms h. none_added (points_reached p ms))
+  rule_adds Opcode.PointAbs = operands_add _ (λ ms h. each_adds point_entry (length ms) (points_at ms) (λ _. refl) h (points_few ms))
+  rule_adds Opcode.PointRel = pen_adds _ (λ p ms h. each_adds point_entry (length ms) (points_reached p ms) (λ _. refl) h (reached_few p ms))
+  rule_adds Opcode.LineAbs = pen_adds _ (λ p ms h. each_adds span_line_entry (length ms) _ (λ _. refl) h (lines_few p ms (points_at ms) (points_few ms)))
+  rule_adds Opcode.LineRel = pen_adds _ (λ p ms h. each_adds span_line_entry (length ms) _ (λ _. refl) h (lines_few p ms (points_reached p ms) (reached_few p ms)))
+  rule_adds Opcode.SetLineAbs = pairs_add _ (λ ms h. each_adds span_line_entry (length ms) (absolute_spans ms) (λ _. refl) h (absolute_few ms))
+  rule_adds Opcode.SetLineRel = pairs_add _ (λ ms h. each_adds span_line_entry (length ms) (relative_spans ms) (λ _. refl) h (relative_few ms))
+  rule_adds Opcode.ArcOutlined = from_pen_adds (arc_on false) arc_points (λ _. refl) arc_few
+  rule_adds Opcode.ArcFilled = from_pen_adds (arc_on true) arc_points (λ _. refl) arc_few
+  rule_adds Opcode.SetArcOutlined = from_point_adds (arc_on false) arc_points (λ _. refl) arc_few
+  rule_adds Opcode.SetArcFilled = from_point_adds (arc_on true) arc_points (λ _. refl) arc_few
+  rule_adds Opcode.RectOutlined = pen_adds _ (λ p ms h. each_adds (rect_on false) (length ms) (rect_chain_spans p ms) (λ _. refl) h (chain_few p ms))
+  rule_adds Opcode.RectFilled = pen_adds _ (λ p ms h. each_adds (rect_on true) (length ms) (rect_chain_spans p ms) (λ _. refl) h (chain_few p ms))
+  rule_adds Opcode.SetRectOutlined = pairs_add _ (λ ms h. each_adds (rect_on false) (length ms) (relative_spans ms) (λ _. refl) h (relative_few ms))
+  rule_adds Opcode.SetRectFilled = pairs_add _ (λ ms h. each_adds (rect_on true) (length ms) (relative_spans ms) (λ _. refl) h (relative_few ms))
+  rule_adds Opcode.PolyOutlined = from_pen_adds (poly_on false) poly_points (λ _. refl) poly_few
+  rule_adds Opcode.PolyFilled = from_pen_adds (poly_on true) poly_points (λ _. refl) poly_few
+  rule_adds Opcode.SetPolyOutlined = from_point_adds (poly_on false) poly_points (λ _. refl) poly_few
+  rule_adds Opcode.SetPolyFilled = from_point_adds (poly_on true) poly_points (λ _. refl) poly_few
+  rule_adds Opcode.Field = after_any most (area_of work (moves_of work run)) _ (λ area. omega arith)
+  rule_adds Opcode.SetColor = set_color_adds (operands work.domain.multi run)
+  rule_adds Opcode.Wait = omega (arith, each_weighs Entry.Wait run (λ _. refl))
+  rule_adds Opcode.Blink = blinks_add work.domain.single (operands (work.domain.single + 3) run) (operands_few (work.domain.single + 3) run)
+  rule_adds _ = omega arith
 
 -- How many bytes the canonical text of an entry takes at most.
 
@@ -295,11 +248,7 @@ shift_in_few gl = grind arith
 
 piece_few : (t : TextEnd) (p : Piece) → length (piece_bytes t p) ≤ cost_of p
 piece_few t (opcode byte operands) = omega (arith, length-append (shift_to_opcodes (gl_of t)) (byte ∷ operands), shift_out_few (gl_of t))
-piece_few t (group byte operands) = by (joins_open_run t byte (length operands))
-  where
-    by : (b : Bool) → length (if b then operands else (shift_to_opcodes (gl_of t) ++ byte ∷ operands)) ≤ length operands + 2
-    by true = omega arith
-    by false = omega (arith, length-append (shift_to_opcodes (gl_of t)) (byte ∷ operands), shift_out_few (gl_of t))
+piece_few t (group byte operands) = grind (arith, length-append (shift_to_opcodes (gl_of t)) (byte ∷ operands), shift_out_few (gl_of t))
 piece_few t (primary code) = omega (arith, length-append (shift_to_primary (gl_of t)) (code ∷ []), shift_in_few (gl_of t))
 piece_few t (control bytes) = omega arith
 
@@ -310,26 +259,23 @@ pieces_few t (p ∷ ps) = omega (arith, length-append (piece_bytes t p) (pieces_
 
 -- the commands of a prelude
 
-commands_append : (cs ds : List _) → cost (map command_piece (cs ++ ds)) ≡ cost (map command_piece cs) + cost (map command_piece ds)
-commands_append [] ds = omega arith
-commands_append (c ∷ cs) ds = omega (arith, commands_append cs ds)
+-- commands after others
+both_few : (m n : ℕ) (cs ds : List _) → cost (map command_piece cs) ≤ m → cost (map command_piece ds) ≤ n → cost (map command_piece (cs ++ ds)) ≤ m + n
+both_few m n [] ds h k = omega (arith, k)
+both_few m n (c ∷ cs) ds h k = omega (arith, both_few (cost (map command_piece cs)) n cs ds (omega arith) k, h)
 
 either_few : (n : ℕ) (b : Bool) (cs ds : List _) → cost (map command_piece cs) ≤ n → cost (map command_piece ds) ≤ n → cost (map command_piece (if b then cs else ds)) ≤ n
 either_few n true cs ds h k = h
 either_few n false cs ds h k = k
 
 unless_few : (n : ℕ) (same : Bool) (cs : List _) → cost (map command_piece cs) ≤ n → cost (map command_piece (unless same cs)) ≤ n
-unless_few n true cs h = omega arith
-unless_few n false cs h = h
-
-pen_commands_few : (pen : Pen) → cost (map command_piece (pen_commands pen)) ≤ 10
-pen_commands_few (Pen.At p) = omega (arith, point_size p)
-pen_commands_few _ = omega arith
+unless_few n same cs h = either_few n same [] cs (omega arith) h
 
 pen_few : (old : Pen) (wanted : Option Pen) → cost (map command_piece (pen_prelude old wanted)) ≤ 10
 unfolding pen_prelude
 pen_few old None = omega arith
-pen_few old (Some pen) = unless_few 10 (same_pen old pen) (pen_commands pen) (pen_commands_few pen)
+pen_few old (Some (Pen.At p)) = unless_few 10 (same_pen old (Pen.At p)) _ (omega (arith, point_size p))
+pen_few old (Some pen) = unless_few 10 (same_pen old pen) _ (omega arith)
 
 pel_few : (old : Displacement) (wanted : Option Displacement) → cost (map command_piece (pel_prelude old wanted)) ≤ 11
 unfolding pel_prelude
@@ -340,10 +286,7 @@ base_few : (old : Colour) → cost (map command_piece (base_commands old)) ≤ 2
 base_few old = grind arith
 
 colour_commands_few : (base : Base) (old colour : Colour) → cost (map command_piece (colour_commands base old colour)) ≤ 12
-colour_commands_few base old (Colour.Direct grb) = after (base_commands old) (same_base base (Base.Direct grb)) _ (base_few old) (omega (arith, grb_size grb))
-  where
-    after : (cs : List _) (same : Bool) (ds : List _) → cost (map command_piece cs) ≤ 2 → cost (map command_piece ds) ≤ 10 → cost (map command_piece (cs ++ unless same ds)) ≤ 12
-    after cs same ds h k = omega (arith, commands_append cs (unless same ds), h, unless_few 10 same ds k)
+colour_commands_few base old (Colour.Direct grb) = both_few 2 10 (base_commands old) _ (base_few old) (unless_few 10 (same_base base (Base.Direct grb)) _ (omega (arith, grb_size grb)))
 colour_commands_few base old (Colour.Front a) = omega (arith, addr_size a)
 colour_commands_few base old (Colour.Pair a b) = omega (arith, length-append (addr_bytes a) (addr_bytes b), addr_size a, addr_size b)
 colour_commands_few base old _ = omega arith
@@ -354,21 +297,21 @@ colour_prelude_few base old None = omega arith
 colour_prelude_few base old (Some colour) = unless_few 12 (same_colour old colour) (colour_commands base old colour) (colour_commands_few base old colour)
 
 mask_few : (word : ℕ) (old wanted : Option Displacement) → cost (map command_piece (mask_commands word old wanted)) ≤ 11
-mask_few word old None = omega arith
-mask_few word None (Some m) = omega (arith, move_size m)
 mask_few word (Some old) (Some m) = either_few 11 (same_move old m) _ _ (omega arith) (omega (arith, move_size m))
+mask_few word None (Some m) = omega (arith, move_size m)
+mask_few word old None = omega arith
 
 texture_few : (old : Texture) (wanted : Option Texture) → cost (map command_piece (texture_prelude old wanted)) ≤ 11
 unfolding texture_prelude
 texture_few old None = omega arith
-texture_few old (Some t) = unless_few 11 (same_texture old t) (mask_commands t.word old.mask t.mask) (mask_few t.word old.mask t.mask)
+texture_few old (Some t) = unless_few 11 (same_texture old t) _ (mask_few t.word old.mask t.mask)
 
 words_few : (old t : TextLook) → cost (map command_piece (words_commands old t)) ≤ 12
 words_few old t = unless_few 12 (old.first == t.first && old.second == t.second) _ (omega arith)
 
 given_few : (old t : TextLook) (size : CharSize) → cost (map command_piece (given_size_commands old t size)) ≤ 12
 given_few old t (CharSize.Named size) = words_few old t
-given_few old t (CharSize.Given m) = either_few 12 (same_size old.size (CharSize.Given m)) (words_commands old t) _ (words_few old t) (omega (arith, move_size m))
+given_few old t (CharSize.Given m) = either_few 12 (same_size old.size (CharSize.Given m)) _ _ (words_few old t) (omega (arith, move_size m))
 
 named_few : (old size : CharSize) → cost (map command_piece (named_size_commands old size)) ≤ 2
 named_few old (CharSize.Given m) = omega arith
@@ -376,10 +319,6 @@ named_few old (CharSize.Named size) = unless_few 2 (same_size old (CharSize.Name
 
 flag_few : (f : _) (old on : Bool) → cost (map command_piece (flag_commands f old on)) ≤ 2
 flag_few f old on = unless_few 2 (same_flag old on) _ (omega arith)
-
--- commands after others
-both_few : (m n : ℕ) (cs ds : List _) → cost (map command_piece cs) ≤ m → cost (map command_piece ds) ≤ n → cost (map command_piece (cs ++ ds)) ≤ m + n
-both_few m n cs ds h k = omega (arith, commands_append cs ds, h, k)
 
 look_few : (old : TextLook) (wanted : Option TextLook) → cost (map command_piece (text_prelude old wanted)) ≤ 22
 unfolding text_prelude
@@ -411,23 +350,11 @@ char_few set code = grind arith
 step_few : (step : TextStep) → length (step_bytes step) ≤ 3
 step_few step = grind arith
 
-area_few : (area : Area) → length (area_bytes area) ≤ 16
-area_few Area.Whole = omega arith
-area_few (Area.Part from to) = shape_few (from ∷ to ∷ [])
-
 line_few : (pen : Pen) (from to : Coordinates) → cost_of (line_piece Two pen from to) ≤ 18
-line_few pen from to = by (same_pen pen (Pen.At from))
-  where
-    by : (b : Bool) → cost_of (if b then group 0x28 (point_bytes to) else line_between Two from to) ≤ 18
-    by true = omega (arith, point_size to)
-    by false = omega (arith, length-append (point_bytes from) (point_bytes to), point_size from, point_size to)
+line_few pen from to = grind (arith, length-append (point_bytes from) (point_bytes to), point_size from, point_size to)
 
 again_few : (first : ℕ) → cost (domain_again first) ≤ 3
-again_few first = by (first % 2 == 1)
-  where
-    by : (b : Bool) → cost (if b then opcode 0x21 (0x5F ∷ []) ∷ [] else []) ≤ 3
-    by true = omega arith
-    by false = omega arith
+again_few first = grind arith
 
 spelling_few : (d : Drawing) (e : Entry) → cost (spelling_pieces Two d e) ≤ 24 + 8 * points_of e
 spelling_few d (Entry.Point at pel colour) = omega (arith, point_size at)
@@ -441,7 +368,7 @@ spelling_few d (Entry.Map a grb) =
     let selected = map command_piece (colour_prelude d.base d.colour (Some (Colour.Front a))) in
     omega (arith, cost_append selected (opcode 0x3C (grb_bytes grb) ∷ []), colour_prelude_few d.base d.colour (Some (Colour.Front a)), grb_size grb)
 spelling_few d (Entry.Blink a on off delay colour) = omega (arith, length-append (addr_bytes a) (word_byte on ∷ word_byte off ∷ word_byte delay ∷ []), addr_size a)
-spelling_few d (Entry.Field area pen) = omega (arith, area_few area)
+spelling_few d (Entry.Field (Area.Part from to) pen) = omega (arith, shape_few (from ∷ to ∷ []))
 spelling_few d (Entry.Reset first second pen) = omega (arith, again_few first)
 spelling_few d _ = omega arith
 
@@ -453,7 +380,7 @@ entry_few s e =
     let d = with_attributes s.drawing (attributes e) in
     omega (arith, cost_append before (spelling_pieces Two d e), prelude_few s.drawing (attributes e), spelling_few d e)
 
-pub entries_few : (s : State) (es : List Entry) → cost (pieces Two s es) ≤ 90 * length es + 8 * points_in es
+pub entries_few : (s : State) (es : List Entry) → cost (pieces Two s es) ≤ weight es
 unfolding pieces
 entries_few s [] = omega arith
 entries_few s (e ∷ es) = omega (arith, cost_append (entry_pieces Two s e) (pieces Two (after s e) es), entry_few s e, entries_few (after s e) es)

@@ -1,4 +1,4 @@
-use Rattle.nap_command.proofs.Common.{Buffered, Consumes, Consumes-trans, Ended, Err, FindsRequest, FoundRequest, IsAsked, IsAtEnd, IsBegun, IsCutShort, IsDropped, IsFound, IsLast, IsMore, IsSkipped, IsStep, IsWhole, Keeps, KeepsWithin, List, NeverStarts, None, NoneFailed, Ok, Option, ReadStep, Reading, ReadingEnds, ReadsOn, RequestLine, Result, Skips, Some, Stop, TakesMemory, [], ap, append-nil, append_assoc, arith, end_of, inl, inr, length, length-append, max, memory_for, nil_from_length, reading, reads_limit, refl, subst, sym, ℕ, ◌++◌, ◌+◌, ◌-◌, ◌∙◌, ◌≡◌, ◌≢◌, ◌≤◌}
+use Rattle.nap_command.proofs.Common.{Buffered, Consumes, Consumes-trans, Ended, Err, FindsRequest, FoundRequest, IsAsked, IsAtEnd, IsBegun, IsCutShort, IsDropped, IsFound, IsLast, IsMore, IsSkipped, IsStep, IsWhole, Keeps, KeepsWithin, List, NeverStarts, None, NoneFailed, Ok, Option, ReadStep, Reading, ReadingEnds, ReadsOn, Result, Skips, Some, Stop, TakesMemory, TakesStep, [], ap, append-nil, append_assoc, arith, end_of, inl, inr, length, length-append, max, memory_for, nil_from_length, reading, reads_limit, refl, subst, sym, ℕ, ◌++◌, ◌+◌, ◌-◌, ◌∙◌, ◌≡◌, ◌≢◌, ◌≤◌}
 use Rattle.nap_list.specs.declared.device.Inlet as inlet
 use Rattle.nap_command.proofs.FrontLemmas.{made_whole, more_begun, some_front, still_short, keeps_on, stays_within, takes_within}
 use Rattle.nap_command.proofs.SessionLemmas.{ends_there, stops_alike}
@@ -46,29 +46,20 @@ module _ {I : Type 0} (i : inlet.Ghosts I) (old : Buffered) (n : ℕ) (more : Is
   abbrev pub needed : ℕ
   needed = memory_for (length old.bytes) n
 
+  step_by : (new : Buffered) (after : I) (r : Result ReadStep Ended) (piece : List ℕ) → Consumes (i.left before) (i.left after) piece → TakesStep (reading i before after) old new piece r →
+      new.memory ≡ max old.memory needed → IsStep i old new before after r
+  step_by new after r piece read steps memory = record { bytes = piece; read = read; steps = steps; keeps = takes_within old.bytes piece n old.memory new.memory more memory }
+
   pub ends_step : (new : Buffered) (after : I) → ReadsOn i old.bytes new.bytes before after (Ok 0) → new.memory ≡ max old.memory needed → IsStep i old new before after (Err (end_of new.bytes))
-  ends_step new after (piece, read, is, size, end, works) memory = record {
-    bytes = piece;
-    read = read;
-    steps = none_came (reading i before after) old.bytes new.bytes piece (more_begun old.bytes n more) is size (end refl) works;
-    keeps = takes_within old.bytes piece n old.memory new.memory more memory;
-  }
+  ends_step new after (piece, read, is, size, end, works) =
+      step_by new after _ piece read (none_came (reading i before after) old.bytes new.bytes piece (more_begun old.bytes n more) is size (end refl) works)
 
   pub longer_step : (new : Buffered) (after : I) (k : ℕ) → k ≢ 0 → ReadsOn i old.bytes new.bytes before after (Ok k) → new.memory ≡ max old.memory needed → IsStep i old new before after (Ok ReadStep.Longer)
-  longer_step new after k some (piece, read, is, size, end, works) memory = record {
-    bytes = piece;
-    read = read;
-    steps = (is, omega (arith, size, some), works);
-    keeps = takes_within old.bytes piece n old.memory new.memory more memory;
-  }
+  longer_step new after k some (piece, read, is, size, end, works) = step_by new after _ piece read (is, omega (arith, size, some), works)
 
   pub fails_step : (new : Buffered) (after : I) → ReadsOn i old.bytes new.bytes before after (Err Stop.Read) → new.memory ≡ max old.memory needed → IsStep i old new before after (Err Ended.Read)
-  fails_step new after (same, keeps, failed) memory = record {
-    bytes = [];
-    read = keeps_all (i.left before) (i.left after) keeps;
-    steps = none_following (reading i before after) old.bytes Ended.Read (more_begun old.bytes n more, inl failed);
-    keeps = takes_within old.bytes [] n old.memory new.memory more memory;
-  }
+  fails_step new after (same, keeps, failed) =
+      step_by new after _ [] (keeps_all (i.left before) (i.left after) keeps) (none_following (reading i before after) old.bytes Ended.Read (more_begun old.bytes n more, inl failed))
 
   -- the line of a request doesn't lack memory
   pub some_lack : (m : ℕ) → TakesMemory needed old.memory m (Err Stop.Memory) → n ≢ 0
@@ -113,20 +104,11 @@ module _ {I : Type 0} (i : inlet.Ghosts I) (old buffered : Buffered) (bytes : Li
   kept : KeepsWithin (old.bytes ++ bytes) old.memory buffered.memory
   kept = subst (λ (xs : List ℕ). KeepsWithin xs old.memory buffered.memory) is keeps
 
-  pub finds_wrong : NeverStarts buffered.bytes → IsFound i old buffered before mid (Err Ended.Request)
-  finds_wrong never = record { bytes = bytes; read = read; finds = (inl (subst NeverStarts is never), works); keeps = kept }
-
-  pub finds_whole : (line : RequestLine) (start : ℕ) → IsWhole buffered.bytes line start → IsFound i old buffered before mid (Ok (FoundRequest.Whole line start))
-  finds_whole line start whole =
-      record { bytes = bytes; read = read; finds = (is, subst (λ (xs : List ℕ). IsWhole xs line start) is whole, works); keeps = kept }
+  pub finds_now : (r : Result FoundRequest Ended) → FindsRequest (reading i before mid) (old.bytes ++ bytes) buffered r → IsFound i old buffered before mid r
+  finds_now r h = record { bytes = bytes; read = read; finds = h; keeps = kept }
 
   pub finds_last : (r : Result FoundRequest Ended) → reads_limit ≤ length bytes → IsLast buffered.bytes r → IsFound i old buffered before mid r
-  finds_last r many h = record {
-    bytes = bytes;
-    read = read;
-    finds = last_found (reading i before mid) (old.bytes ++ bytes) buffered r is (omega (arith, many, length-append old.bytes bytes)) works h;
-    keeps = kept;
-  }
+  finds_last r many h = finds_now r (last_found (reading i before mid) (old.bytes ++ bytes) buffered r is (omega (arith, many, length-append old.bytes bytes)) works h)
 
   joins : (more : List ℕ) → buffered.bytes ++ more ≡ old.bytes ++ (bytes ++ more)
   joins more = ap (λ (xs : List ℕ). xs ++ more) is ∙ append_assoc old.bytes bytes more
@@ -140,22 +122,15 @@ module _ {I : Type 0} (i : inlet.Ghosts I) (old buffered : Buffered) (bytes : Li
   pub longer : (new : Buffered) (after : I) → IsStep i buffered new mid after (Ok ReadStep.Longer) → KeepsWithin new.bytes old.memory new.memory
   longer new after h = subst (λ (xs : List ℕ). KeepsWithin xs old.memory new.memory) (sym h.steps.0) (kept_on h.bytes new.memory h.keeps)
 
+  finds_on : (new : Buffered) (after : I) (r : Result FoundRequest Ended) (more : List ℕ) → Consumes (i.left mid) (i.left after) more → KeepsWithin (buffered.bytes ++ more) buffered.memory new.memory →
+      FindsRequest (reading i before after) (old.bytes ++ (bytes ++ more)) new r → IsFound i old new before after r
+  finds_on new after r more further keep h =
+      record { bytes = bytes ++ more; read = Consumes-trans (i.left before) (i.left mid) (i.left after) bytes more read further; finds = h; keeps = kept_all more new.memory keep }
+
   pub finds_end : (new : Buffered) (after : I) (end : Ended) → IsStep i buffered new mid after (Err end) → IsFound i old new before after (Err end)
-  finds_end new after end h = record {
-    bytes = bytes ++ h.bytes;
-    read = Consumes-trans (i.left before) (i.left mid) (i.left after) bytes h.bytes read h.read;
-    finds =
-        subst (λ (xs : List ℕ). ReadingEnds (reading i before after) xs end) (joins h.bytes)
-        (stops_alike (reading i mid after) (reading i before after) (buffered.bytes ++ h.bytes) end refl refl (sym works) h.steps);
-    keeps = kept_all h.bytes new.memory h.keeps;
-  }
+  finds_end new after end h =
+      finds_on new after (Err end) h.bytes h.read h.keeps (subst (λ (xs : List ℕ). ReadingEnds (reading i before after) xs end) (joins h.bytes)
+      (stops_alike (reading i mid after) (reading i before after) (buffered.bytes ++ h.bytes) end refl refl (sym works) h.steps))
 
   pub finds_dropped : (new : Buffered) (after : I) → IsStep i buffered new mid after (Ok ReadStep.Dropped) → IsFound i old new before after (Ok FoundRequest.Dropped)
-  finds_dropped new after h =
-      let (gone, fine) = h.steps in
-      record {
-        bytes = bytes ++ h.bytes;
-        read = Consumes-trans (i.left before) (i.left mid) (i.left after) bytes h.bytes read h.read;
-        finds = (subst (IsDropped new) (joins h.bytes) gone, fine ∙ works);
-        keeps = kept_all h.bytes new.memory h.keeps;
-      }
+  finds_dropped new after h = finds_on new after (Ok FoundRequest.Dropped) h.bytes h.read h.keeps (subst (IsDropped new) (joins h.bytes) h.steps.0, h.steps.1 ∙ works)

@@ -1,5 +1,5 @@
-use Rattle.std.specs.Prelude.{Err, IfSome, IsSome, List, Ok, Result, Some, [], decimal, drop, false, flat_map, length, suc, take, zero, ℕ, ◌++◌, ◌+◌, ◌^◌, ◌∷◌, ◌≡◌, ◌≢◌, ◌≤◌, ◌⊎◌}
-use Rattle.nap_command.specs.Types.{Action, BreaksWithin, Command, Entry, Failure, Fault, IsAccepted, IsMadeOf, LacksWithin, MakeFault, PageText, Question, Refusal, begun, lines, list_of, means, refusal, text}
+use Rattle.std.specs.Prelude.{Err, List, Ok, Result, Some, [], decimal, drop, false, flat_map, length, suc, take, zero, ℕ, ◌++◌, ◌+◌, ◌^◌, ◌∷◌, ◌≡◌, ◌≢◌, ◌≤◌, ◌⊎◌}
+use Rattle.nap_command.specs.Types.{Action, BreaksWithin, Command, Entry, Failure, Fault, IsAccepted, IsMadeOf, LacksWithin, MakeFault, Question, Refusal, begun, lines, list_of, means, refusal, text}
 use Rattle.nap_lines.specs.Lines.{line}
 use Rattle.nap_make.specs.Texts.{DeniesLines}
 use Rattle.nap_command.specs.Commands.{Denies, count_line}
@@ -142,10 +142,3 @@ abbrev pub question_of : Action → Question
 question_of Action.Check = Question.Check
 question_of Action.List = Question.List
 question_of Action.Canon = Question.Canon
-
--- The canonical text of a page.
-
--- what an answer has of the canonical text of a page, or of its refusal
-abbrev pub ShowsText : Result PageText Refusal → List ℕ → List ℕ → Type 0
-ShowsText (Ok found) line body = IfSome found.count (λ n. line ≡ count_line n) × IsSome found.count × (body ≡ found.text.items)
-ShowsText (Err r) line body = (line ≡ refused_line r) × (body ≡ [])

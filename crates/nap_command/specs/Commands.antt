@@ -6,7 +6,7 @@ use Rattle.nap_canon.specs.declared.conversion.ConvertFault.{ConvertFault}
 use Rattle.nap_canon.specs.Converting.{Converts, StopsAtOnce, count_of}
 use Rattle.nap_list.specs.declared.device.Inlet as inlet
 use Rattle.nap_command.specs.Failures.{exit_status, refusal_text, reported_text}
-use Rattle.nap_command.specs.Devices.{Devices, reading_of}
+use Rattle.nap_command.specs.Devices.{Devices, reading_between}
 
 -- The stream that a command reads.
 
@@ -197,12 +197,12 @@ pub record Ran {I : Type 0} (i : inlet.Ghosts I) (c : Command) (start end : I) (
   pub q : List ℕ
   pub e : List ℕ
   pub ended : Result Verdict Failure
-  pub read : Consumes before.left after.left p
-  pub printed : Appends before.taken after.taken q
+  pub read : Consumes before.pipes.left after.pipes.left p
+  pub printed : Appends before.pipes.taken after.pipes.taken q
   pub reported : Appends before.reported after.reported e
-  pub few : after.reads ≤ before.reads + reads_limit
-  pub ends : CommandEnds c p (reading_of before after) q after.output_failed ended
+  pub few : after.pipes.reads ≤ before.pipes.reads + reads_limit
+  pub ends : CommandEnds c p (reading_between before.pipes after.pipes) q after.pipes.output_failed ended
   pub stops : StreamsAtOnce i c p start end q
-  pub sends : SendsOn ended after.output_failed after.sent
-  pub flushes : after.flushes ≡ flushed_by c.stream c.hex after.write_failed before.flushes
+  pub sends : SendsOn ended after.pipes.output_failed after.pipes.sent
+  pub flushes : after.pipes.flushes ≡ flushed_by c.stream c.hex after.pipes.write_failed before.pipes.flushes
   pub tells : Reports e after.errors_failed ended status

@@ -3,7 +3,7 @@ use Rattle.nap_command.specs.Types.{Appends, Consumes, Failure, IsCutOff, IsMade
 use Rattle.nap_make.specs.declared.page.PageFault.{PageFault}
 use Rattle.nap_make.specs.Pages.{MakesPage, RefusesLinesBy, ReadsNoMore}
 use Rattle.nap_command.specs.Commands.{EndsPrinting, Reports}
-use Rattle.nap_command.specs.Devices.{Devices, reading_of}
+use Rattle.nap_command.specs.Devices.{Devices, reading_between}
 
 -- `make` prints the page that lines make.
 
@@ -63,11 +63,11 @@ pub record Made (stream : Bool) (before after : Devices) (status : ℕ) : Type 0
   pub q : List ℕ
   pub e : List ℕ
   pub ended : Result Verdict Failure
-  pub read : Consumes before.left after.left p
-  pub printed : Appends before.taken after.taken q
+  pub read : Consumes before.pipes.left after.pipes.left p
+  pub printed : Appends before.pipes.taken after.pipes.taken q
   pub reported : Appends before.reported after.reported e
-  pub few : after.reads ≤ before.reads + reads_limit
-  pub ends : EndsMade stream p (reading_of before after) q after.output_failed after.write_failed ended
-  pub sends : after.output_failed ≡ false → after.sent ≡ true
-  pub flushes : after.flushes ≡ flush_count after.write_failed before.flushes
+  pub few : after.pipes.reads ≤ before.pipes.reads + reads_limit
+  pub ends : EndsMade stream p (reading_between before.pipes after.pipes) q after.pipes.output_failed after.pipes.write_failed ended
+  pub sends : after.pipes.output_failed ≡ false → after.pipes.sent ≡ true
+  pub flushes : after.pipes.flushes ≡ flush_count after.pipes.write_failed before.pipes.flushes
   pub tells : Reports e after.errors_failed ended status

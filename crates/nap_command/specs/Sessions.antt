@@ -1,11 +1,10 @@
-use Rattle.nap_list.specs.declared.device.Inlet as inlet
 use Rattle.nap_list.specs.declared.device.Outlet as outlet
 use Rattle.nap_list.specs.Flushing as flushing
 use Rattle.nap_command.specs.Commands.{Reported}
-use Rattle.nap_command.specs.Devices.{Devices}
+use Rattle.nap_command.specs.Devices.{Devices, Pipes, reading_between}
 use Rattle.nap_command.specs.Failures.{failure_text}
-use Rattle.std.specs.Prelude.{All, Bool, Err, List, Ok, Option, Result, [], codes, false, flat_map, length, max, min, take, true, ℕ, ◌++◌, ◌+◌, ◌-◌, ◌^◌, ◌∷◌, ◌≡◌, ◌≢◌, ◌≤◌, ◌⊎◌}
-use Rattle.nap_command.specs.Types.{Appends, Consumes, Ended, Failure, Question, Reading, read_limit}
+use Rattle.std.specs.Prelude.{All, Bool, Err, List, Ok, Result, [], codes, false, flat_map, length, max, min, take, true, ℕ, ◌++◌, ◌+◌, ◌-◌, ◌^◌, ◌∷◌, ◌≡◌, ◌≢◌, ◌≤◌, ◌⊎◌}
+use Rattle.nap_command.specs.Types.{Appends, Consumes, Ended, Failure, Question, read_limit}
 use Rattle.nap_command.specs.Answers.{IsAnswer, answer_text}
 use Rattle.nap_command.specs.Buffering.{Buffered}
 use Rattle.nap_command.specs.Limits.{requests_limit}
@@ -54,58 +53,9 @@ SendsText o written text before after (Err _) = ⊥
 pub record IsSent {O : Type 0} (o : outlet.Ghosts O) (written : ℕ) (text : List ℕ) (before after : O) (result : Result ℕ Ended) : Type 0 where
   pub sends : SendsText o written text before after result
 
--- an output took the bytes before a body after a number of bytes, and wasn't flushed; or it failed during them
-abbrev pub SendsHead : {O : Type 0} → outlet.Ghosts O → ℕ → List ℕ → O → O → Result ℕ Ended → Type 0
-SendsHead o written head before after (Ok n) =
-    Appends (o.taken before) (o.taken after) head × (n ≡ count_on written (length head)) × (o.failed after ≡ o.failed before) × (o.flushes after ≡ o.flushes before)
-SendsHead o written head before after (Err end) = SendsText o written head before after (Err end)
-
-pub record IsHeadSent {O : Type 0} (o : outlet.Ghosts O) (written : ℕ) (head : List ℕ) (before after : O) (result : Result ℕ Ended) : Type 0 where
-  pub sends_head : SendsHead o written head before after result
-
 -- a request was answered like this after a number of bytes, or the output failed during the answer
 abbrev pub Replies : {O : Type 0} → outlet.Ghosts O → ℕ → Question → ℕ → List ℕ → O → O → Result ℕ Ended → Type 0
 Replies o written q budget page before after result = (text : List ℕ) × IsAnswered q budget page text × IsSent o written text before after result
-
--- The input and the output: the bytes left and the bytes taken, if they tell them; the number of reads; whether the
--- output was flushed after its last write, and the number of flushes; which devices have failed, and whether a write of
--- the output has.
-pub record Pipes : Type 0 where
-  pub left : Option (List ℕ)
-  pub reads : ℕ
-  pub input_failed : Bool
-  pub taken : Option (List ℕ)
-  pub sent : Bool
-  pub flushes : ℕ
-  pub output_failed : Bool
-  pub write_failed : Bool
-
-abbrev pub pipes : {I O : Type 0} → inlet.Ghosts I → outlet.Ghosts O → I → O → Pipes
-pipes i o input output = record {
-  left = i.left input;
-  reads = i.calls input;
-  input_failed = i.failed input;
-  taken = o.taken output;
-  sent = o.sent output;
-  flushes = o.flushes output;
-  output_failed = o.failed output;
-  write_failed = o.write_failed output;
-}
-
-abbrev pub pipes_of : Devices → Pipes
-pipes_of d = record {
-  left = d.left;
-  reads = d.reads;
-  input_failed = d.input_failed;
-  taken = d.taken;
-  sent = d.sent;
-  flushes = d.flushes;
-  output_failed = d.output_failed;
-  write_failed = d.write_failed;
-}
-
-abbrev pub reading_between : Pipes → Pipes → Reading
-reading_between before after = record { left = after.left; failed_before = before.input_failed; failed = after.input_failed; reads = after.reads - before.reads }
 
 -- How a run ends, with these bytes after the last answered request, and these after its answer: reading ended, there
 -- were as many requests as allowed, a write failed during an answer, or there was no memory before anything was read or
@@ -195,7 +145,7 @@ ended_status _ = 3
 -- The command ran from the devices before to those after, with this exit status.
 pub record Served (before after : Devices) (status : ℕ) : Type 0 where
   pub end : Ended
-  pub session : Session (pipes_of before) (pipes_of after) end
+  pub session : Session before.pipes after.pipes end
   pub e : List ℕ
   pub reported : Appends before.reported after.reported e
   pub tells : Reported (ended_text end) e after.errors_failed

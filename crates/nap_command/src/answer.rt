@@ -5,8 +5,8 @@ ghost use Rattle.nap_list.specs.Limits.{reads_limit};
 ghost use Rattle.nap_list.specs.Reading.{reading};
 ghost use Rattle.nap_canon.specs.PageTexts.{refusal_of_text};
 ghost use Rattle.nap_canon.specs.Sinking.{StartsText};
-ghost use Rattle.nap_command.specs.Failures.{refusal_text, verdict_status};
-ghost use Rattle.nap_command.specs.Commands.{Fails, FailsOn, FailsToSpell, Finds, Denies, IsStream, Prints, PrintsBy, PrintsCount, canon_text, count_line, is_blank};
+ghost use Rattle.nap_command.specs.Failures.{failure_text, verdict_status};
+ghost use Rattle.nap_command.specs.Commands.{Fails, FailsToSpell, Finds, Denies, IsStream, PrintsBy, PrintsCount, canon_text, count_line, is_blank};
 
 use crate::command::{Action, Command};
 use crate::device::read_whole;
@@ -35,6 +35,12 @@ pub(crate) struct Printout {
     /// Whether the stream is accepted.
     pub verdict: Verdict,
 }
+
+/// What a command prints, or why it prints nothing.
+pub(crate) type Found = Result<Printout, Failure>;
+
+/// How a command ends.
+pub(crate) type Ending = Result<Verdict, Failure>;
 
 impl Verdict {
     /// Returns the exit status.
@@ -79,25 +85,15 @@ pub(crate) fn count_line(alloc: Global, count: u64) -> Result<Vec<u8>, AllocErro
     Ok(line.into_bytes())
 }
 
-/// Returns the line of lower-case hexadecimal digits that spells a stream.
-fn hex_line(alloc: Global, stream: &[u8]) -> Result<Vec<u8>, AllocError>
-    ensures { IfOk result (λ text. text.items ≡ canon_text true stream.now) }
+/// Returns the line that reports a failure, with LF.
+pub(crate) fn failure_line(alloc: Global, failure: Failure) -> Result<Vec<u8>, AllocError>
+    ensures { IfOk result (λ text. text.items ≡ failure_text failure ++ 10 ∷ []) }
 {
-    let mut line = hex::encode(alloc, stream)?;
-    line.push('\n')?;
-    Ok(line.into_bytes())
-}
-
-/// Returns the line of a refusal, with LF.
-pub(crate) fn refusal_line(alloc: Global, refusal: Refusal) -> Result<Vec<u8>, AllocError>
-    ensures { IfOk result (λ text. text.items ≡ refusal_text refusal ++ 10 ∷ []) }
-{
-    let line = Failure::Refused(refusal).line();
-    Vec::from_slice(alloc, line.as_bytes())
+    Vec::from_slice(alloc, failure.line().as_bytes())
 }
 
 /// Returns what `check` prints of a page whose entries were counted.
-fn print_count(alloc: Global, found: Result<CountSink, Refusal>) -> Result<Printout, Failure>
+fn print_count(alloc: Global, found: Result<CountSink, Refusal>) -> Found
     ensures { MatchResult result (λ a. PrintsCount found a.text.items a.verdict) (λ f. f ≡ Failure.Memory) }
 {
     match found {
@@ -106,7 +102,7 @@ fn print_count(alloc: Global, found: Result<CountSink, Refusal>) -> Result<Print
             verdict: Verdict::Accepted,
         }),
         Err(refusal) => Ok(Printout {
-            text: refusal_line(alloc, refusal)?,
+            text: failure_line(alloc, Failure::Refused(refusal))?,
             verdict: Verdict::Refused,
         }),
     }
@@ -131,18 +127,16 @@ fn begin_text<O: Outlet + Drop>(outlet: O) -> Result<CanonSink<O>, Failure>
 fn canon_text(alloc: Global, hex: bool, text: Vec<u8>) -> Result<Vec<u8>, AllocError>
     ensures { IfOk result (λ printed. printed.items ≡ canon_text hex text.items) }
 {
-    if hex {
-        return hex_line(alloc, text.as_slice());
+    if !hex {
+        return Ok(text);
     }
-    Ok(text)
+    let mut line = hex::encode(alloc, text.as_slice())?;
+    line.push('\n')?;
+    Ok(line.into_bytes())
 }
 
 /// Returns what `canon` prints of a page whose text was written to memory as it was read.
-fn print_text(
-    alloc: Global,
-    hex: bool,
-    found: Result<TextSink, Refusal>,
-) -> Result<Printout, Failure>
+fn print_text(alloc: Global, hex: bool, found: Result<TextSink, Refusal>) -> Found
     ensures { MatchResult found
         (λ s. MatchResult result (λ a. (a.text.items ≡ canon_text hex s.outlet.writer.items) × (a.verdict ≡ Verdict.Accepted)) (λ f. f ≡ Failure.Memory))
         (λ r. result ≡ Err (Failure.Refused (refusal_of_text r))) }
@@ -157,11 +151,7 @@ fn print_text(
 }
 
 /// Returns what a command prints of a stream.
-pub(crate) fn answer_stream(
-    alloc: Global,
-    command: &Command,
-    stream: &[u8],
-) -> Result<Printout, Failure>
+pub(crate) fn answer_stream(alloc: Global, command: &Command, stream: &[u8]) -> Found
     ensures { MatchResult result (λ a. PrintsBy command.now.action command.now stream.now a.text.items a.verdict) (Denies command.now stream.now) }
 {
     let budget = command.budget;
@@ -181,22 +171,24 @@ pub(crate) fn answer_stream(
     }
 }
 
-/// Returns what a command prints of hexadecimal text.
-fn answer_text(alloc: Global, command: &Command, text: &[u8]) -> Result<Printout, Failure>
-    requires { command.now.hex ≡ true }
-    ensures { MatchResult result (λ a. Prints command.now text.now a.text.items a.verdict) (FailsOn command.now text.now) }
+/// Returns what a command prints of the hexadecimal text that an input gives.
+pub(crate) fn answer_text<I: Inlet>(alloc: Global, command: &Command, input: &mut I) -> Found
+    requires calls { I.calls input.old < 2 ^ 63 }
+    requires text { command.now.hex ≡ true }
+    ensures few { I.calls input.new ≤ I.calls input.old + reads_limit }
+    ensures found { let seen = reading I.Inlet input.old input.new in
+        (p : List ℕ) × Consumes (I.left input.old) (I.left input.new) p
+        × MatchResult result (λ a. Finds command.now p seen a.text.items a.verdict) (Fails command.now p seen) }
 {
-    let stream = bytes_of_hex(alloc, text)?;
+    let text = read_whole(alloc, input)?;
+    let stream = bytes_of_hex(alloc, text.as_slice())?;
     answer_stream(alloc, command, stream.as_slice())
 }
 
 /// Returns what a command prints of the bytes that an input gives, none of which is kept.
+// Kept out of the caller, whose frame would hold its buffers.
 #[inline(never)]
-fn answer_input<I: Inlet>(
-    alloc: Global,
-    command: &Command,
-    input: &mut I,
-) -> Result<Printout, Failure>
+pub(crate) fn answer_input<I: Inlet>(alloc: Global, command: &Command, input: &mut I) -> Found
     requires calls { I.calls input.old < 2 ^ 63 }
     requires bytes { command.now.hex ≡ false }
     ensures few { I.calls input.new ≤ I.calls input.old + reads_limit }
@@ -213,37 +205,16 @@ fn answer_input<I: Inlet>(
                 verdict: Verdict::Accepted,
             })
         }
-        Action::Check => {
-            let found = read_input(alloc, budget, input, CountSink::new())?;
-            print_count(alloc, found)
-        }
+        Action::Check => print_count(alloc, read_input(alloc, budget, input, CountSink::new())?),
         Action::Canon => {
-            let found = read_input(
-                alloc,
-                budget,
-                input,
-                begin_text(Target::new(Vec::new(alloc)))?,
-            )?;
-            print_text(alloc, false, found)
+            let sink = begin_text(Target::new(Vec::new(alloc)))?;
+            match read_input(alloc, budget, input, sink)? {
+                Ok(sink) => Ok(Printout {
+                    text: sink.close().into_inner(),
+                    verdict: Verdict::Accepted,
+                }),
+                Err(refusal) => Err(Failure::Refused(refusal_of_text(refusal))),
+            }
         }
     }
-}
-
-/// Returns what a command prints of its input.
-pub(crate) fn find_printout<I: Inlet>(
-    alloc: Global,
-    command: &Command,
-    input: &mut I,
-) -> Result<Printout, Failure>
-    requires { I.calls input.old < 2 ^ 63 }
-    ensures few { I.calls input.new ≤ I.calls input.old + reads_limit }
-    ensures found { let seen = reading I.Inlet input.old input.new in
-        (p : List ℕ) × Consumes (I.left input.old) (I.left input.new) p
-        × MatchResult result (λ a. Finds command.now p seen a.text.items a.verdict) (Fails command.now p seen) }
-{
-    if !command.hex {
-        return answer_input(alloc, command, input);
-    }
-    let text = read_whole(alloc, input)?;
-    answer_text(alloc, command, text.as_slice())
 }

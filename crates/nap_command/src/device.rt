@@ -11,6 +11,7 @@ use nap_list::{Inlet, Outlet, READ_SIZE, READS, send_all};
 use std::alloc::Global;
 
 /// Reads an input to its end and returns its bytes.
+// Kept out of the caller, whose frame would hold its buffer.
 #[inline(never)]
 pub(crate) fn read_whole<I: Inlet>(alloc: Global, input: &mut I) -> Result<Vec<u8>, Failure>
     requires { I.calls input.old < 2 ^ 63 }
@@ -42,11 +43,8 @@ pub fn write_whole<O: Outlet>(output: &mut O, text: &[u8]) -> Result<(), Failure
     ensures flushes { O.write_failed output.old ≡ false → FlushedOnce O.Outlet output.old output.new }
 {
     let mut taken = 0;
-    match send_all(output, &mut taken, text) {
-        Ok(()) => match output.flush() {
-            Ok(()) => Ok(()),
-            Err(_) => Err(Failure::Write(taken)),
-        },
-        Err(_) => Err(Failure::Write(taken)),
+    if send_all(output, &mut taken, text).is_err() || output.flush().is_err() {
+        return Err(Failure::Write(taken));
     }
+    Ok(())
 }

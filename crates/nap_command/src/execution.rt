@@ -4,11 +4,11 @@ ghost use Rattle.std.specs.Io.KnownBytes.{Appends, Consumes};
 ghost use Rattle.nap_list.specs.Flushing.{FlushedOnce};
 ghost use Rattle.nap_list.specs.Limits.{reads_limit};
 ghost use Rattle.nap_list.specs.Reading.{reading};
-ghost use Rattle.nap_command.specs.Devices.{devices};
-ghost use Rattle.nap_command.specs.Commands.{EndsByAction, EndsWhole, IsPrinted, Ran, Reports, verdict_of_conversion};
-ghost use Rattle.nap_command.specs.Making.{EndsMadeWhole, FailsToMake, FindsPage, Made, failure_of, verdict_of_page};
+ghost use Rattle.nap_command.specs.Devices.{Ready, devices};
+ghost use Rattle.nap_command.specs.Commands.{IsPrinted, Ran, Reports, verdict_of_conversion};
+ghost use Rattle.nap_command.specs.Making.{FailsToMake, FindsPage, Made, failure_of, verdict_of_page};
 
-use crate::answer::{Printout, Verdict, find_printout};
+use crate::answer::{Ending, Found, Printout, Verdict, answer_input, answer_text};
 use crate::command::{Action, Command};
 use crate::device::write_whole;
 use crate::failure::Failure;
@@ -17,32 +17,6 @@ use nap_canon::{ConvertFault, convert};
 use nap_list::{Inlet, Outlet};
 use nap_make::{ListFault, MakeFault, PageFault, make_page, page_of_input};
 use std::alloc::Global;
-
-/// Executes a command that prints once all of its input is read.
-pub(crate) fn print_once_read<I: Inlet, O: Outlet + Drop>(
-    alloc: Global,
-    command: &Command,
-    input: &mut I,
-    output: O,
-) -> (O, Result<Verdict, Failure>)
-    requires calls { I.calls input.old < 2 ^ 63 }
-    requires works { O.failed output ≡ false }
-    ensures few { I.calls input.new ≤ I.calls input.old + reads_limit }
-    ensures ends { let seen = reading I.Inlet input.old input.new in
-        (p : List ℕ) × (q : List ℕ) × Consumes (I.left input.old) (I.left input.new) p × Appends (O.taken output) (O.taken result.0) q
-        × EndsByAction command.now.action command.now p seen q (O.failed result.0) result.1 }
-    ensures sends { O.failed result.0 ≡ false → O.sent result.0 ≡ true }
-    ensures flushes { FlushedOnce O.Outlet output result.0 }
-{
-    match command.action {
-        Action::List => print_list(alloc, command, input, output),
-        Action::Check | Action::Canon => {
-            let mut output = output;
-            let ended = print_answer(alloc, command, input, &mut output);
-            (output, ended)
-        }
-    }
-}
 
 /// Reports a failure on standard error, and returns its exit status. A failed write to standard error changes nothing.
 pub fn report<E: Outlet>(failure: Failure, errors: &mut E) -> u8
@@ -54,7 +28,7 @@ pub fn report<E: Outlet>(failure: Failure, errors: &mut E) -> u8
 }
 
 /// Reports the failure of a command that ended with one, and returns the exit status.
-pub(crate) fn report_end<E: Outlet>(ended: Result<Verdict, Failure>, errors: &mut E) -> u8
+pub(crate) fn report_end<E: Outlet>(ended: Ending, errors: &mut E) -> u8
     ensures { (e : List ℕ) × Appends (E.taken errors.old) (E.taken errors.new) e × Reports e (E.failed errors.new) ended result }
 {
     match ended {
@@ -64,50 +38,28 @@ pub(crate) fn report_end<E: Outlet>(ended: Result<Verdict, Failure>, errors: &mu
 }
 
 /// Prints what was found, and flushes the output, also if that is nothing. A failed output replaces an earlier failure.
-pub(crate) fn print_found<O: Outlet>(
-    output: &mut O,
-    found: Result<Printout, Failure>,
-) -> Result<Verdict, Failure>
-    requires { O.failed output.old ≡ false }
-    ensures ends { (q : List ℕ) × Appends (O.taken output.old) (O.taken output.new) q
-        × MatchResult found (λ a. IsPrinted a.text.items (Ok a.verdict) q (O.failed output.new) result) (λ f. IsPrinted [] (Err f) q (O.failed output.new) result) }
-    ensures sends { O.failed output.new ≡ false → O.sent output.new ≡ true }
-    ensures flushes { FlushedOnce O.Outlet output.old output.new }
+pub(crate) fn print_found<O: Outlet + Drop>(output: O, found: Found) -> (O, Ending)
+    requires { O.failed output ≡ false }
+    ensures ends { (q : List ℕ) × Appends (O.taken output) (O.taken result.0) q
+        × MatchResult found (λ a. IsPrinted a.text.items (Ok a.verdict) q (O.failed result.0) result.1) (λ f. IsPrinted [] (Err f) q (O.failed result.0) result.1) }
+    ensures sends { O.failed result.0 ≡ false → O.sent result.0 ≡ true }
+    ensures flushes { FlushedOnce O.Outlet output result.0 }
 {
+    let mut output = output;
     match found {
-        Ok(printout) => match write_whole(output, printout.text.as_slice()) {
-            Ok(()) => Ok(printout.verdict),
-            Err(fault) => Err(fault),
+        Ok(printout) => match write_whole(&mut output, printout.text.as_slice()) {
+            Ok(()) => (output, Ok(printout.verdict)),
+            Err(fault) => (output, Err(fault)),
         },
-        Err(failure) => match write_whole(output, &[]) {
-            Ok(()) => Err(failure),
-            Err(fault) => Err(fault),
+        Err(failure) => match write_whole(&mut output, &[]) {
+            Ok(()) => (output, Err(failure)),
+            Err(fault) => (output, Err(fault)),
         },
     }
 }
 
-/// Prints what a command answers, and flushes the output.
-pub(crate) fn print_answer<I: Inlet, O: Outlet>(
-    alloc: Global,
-    command: &Command,
-    input: &mut I,
-    output: &mut O,
-) -> Result<Verdict, Failure>
-    requires calls { I.calls input.old < 2 ^ 63 }
-    requires works { O.failed output.old ≡ false }
-    ensures few { I.calls input.new ≤ I.calls input.old + reads_limit }
-    ensures ends { let seen = reading I.Inlet input.old input.new in
-        (p : List ℕ) × (q : List ℕ) × Consumes (I.left input.old) (I.left input.new) p × Appends (O.taken output.old) (O.taken output.new) q
-        × EndsWhole command.now p seen q (O.failed output.new) result }
-    ensures sends { O.failed output.new ≡ false → O.sent output.new ≡ true }
-    ensures flushes { FlushedOnce O.Outlet output.old output.new }
-{
-    let found = find_printout(alloc, command, input);
-    print_found(output, found)
-}
-
 /// Returns how a command ends that converts a page.
-fn verdict_of_conversion(converted: Result<u64, ConvertFault>) -> Result<Verdict, Failure>
+fn verdict_of_conversion(converted: Result<u64, ConvertFault>) -> Ending
     ensures { result ≡ verdict_of_conversion converted }
 {
     match converted {
@@ -126,24 +78,28 @@ pub fn execute<I: Inlet, O: Outlet + Drop, E: Outlet>(
     output: O,
     errors: &mut E,
 ) -> (O, u8)
-    requires calls { I.calls input.old < 2 ^ 63 }
-    requires works { O.failed output ≡ false }
-    ensures { let seen = devices I.Inlet O.Outlet E.Outlet in
-        Ran I.Inlet command.now input.old input.new (seen input.old output errors.old) (seen input.new result.0 errors.new) result.1 }
+    requires { Ready I.Inlet O.Outlet input.old output }
+    ensures { Ran I.Inlet command.now input.old input.new (devices I.Inlet O.Outlet E.Outlet input.old output errors.old)
+        (devices I.Inlet O.Outlet E.Outlet input.new result.0 errors.new) result.1 }
 {
-    if !command.stream {
-        let (output, ended) = print_once_read(alloc, command, input, output);
-        let status = report_end(ended, errors);
-        return (output, status);
+    if command.stream {
+        if command.hex {
+            return (output, report_end(Err(Failure::Excluded), errors));
+        }
+        let (output, converted) = convert(alloc, input, output, command.budget);
+        return (output, report_end(verdict_of_conversion(converted), errors));
     }
-    if command.hex {
-        let status = report_end(Err(Failure::Excluded), errors);
-        return (output, status);
+    if command.action == Action::List {
+        let (output, ended) = print_list(alloc, command, input, output);
+        return (output, report_end(ended, errors));
     }
-    let (output, converted) = convert(alloc, input, output, command.budget);
-    let ended = verdict_of_conversion(converted);
-    let status = report_end(ended, errors);
-    (output, status)
+    let found = if command.hex {
+        answer_text(alloc, command, input)
+    } else {
+        answer_input(alloc, command, input)
+    };
+    let (output, ended) = print_found(output, found);
+    (output, report_end(ended, errors))
 }
 
 /// Returns the failure of `make` whose lines make no page. A failed write to memory is lack of memory.
@@ -154,14 +110,14 @@ pub(crate) fn lines_failure(fault: MakeFault) -> Failure
         MakeFault::Line { line, column } => Failure::Line(line as u64, column as u64),
         MakeFault::Misfit { line } => Failure::Misfit(line as u64),
         MakeFault::Open { line, opening } => Failure::Open(line as u64, opening as u64),
-        MakeFault::Memory => Failure::Memory,
-        MakeFault::Write => Failure::Memory,
+        _ => Failure::Memory,
     }
 }
 
 /// Returns the page that the lines of an input make.
+// Kept out of the caller, whose frame would hold its buffer.
 #[inline(never)]
-fn find_page<I: Inlet>(alloc: Global, input: &mut I) -> Result<Printout, Failure>
+fn find_page<I: Inlet>(alloc: Global, input: &mut I) -> Found
     requires { I.calls input.old < 2 ^ 63 }
     ensures few { I.calls input.new ≤ I.calls input.old + reads_limit }
     ensures found { let seen = reading I.Inlet input.old input.new in
@@ -178,27 +134,8 @@ fn find_page<I: Inlet>(alloc: Global, input: &mut I) -> Result<Printout, Failure
     }
 }
 
-/// Prints the page that the lines of an input make, and flushes the output.
-fn print_page<I: Inlet, O: Outlet>(
-    alloc: Global,
-    input: &mut I,
-    output: &mut O,
-) -> Result<Verdict, Failure>
-    requires calls { I.calls input.old < 2 ^ 63 }
-    requires works { O.failed output.old ≡ false }
-    ensures few { I.calls input.new ≤ I.calls input.old + reads_limit }
-    ensures ends { let seen = reading I.Inlet input.old input.new in
-        (p : List ℕ) × (q : List ℕ) × Consumes (I.left input.old) (I.left input.new) p × Appends (O.taken output.old) (O.taken output.new) q
-        × EndsMadeWhole p seen q (O.failed output.new) result }
-    ensures sends { O.failed output.new ≡ false → O.sent output.new ≡ true }
-    ensures flushes { FlushedOnce O.Outlet output.old output.new }
-{
-    let found = find_page(alloc, input);
-    print_found(output, found)
-}
-
 /// Returns how `make` ends that prints as it reads.
-fn verdict_of_page(made: Result<u64, PageFault>) -> Result<Verdict, Failure>
+fn verdict_of_page(made: Result<u64, PageFault>) -> Ending
     ensures { result ≡ verdict_of_page made }
 {
     match made {
@@ -217,18 +154,14 @@ pub fn execute_make<I: Inlet, O: Outlet + Drop, E: Outlet>(
     output: O,
     errors: &mut E,
 ) -> (O, u8)
-    requires calls { I.calls input.old < 2 ^ 63 }
-    requires works { O.failed output ≡ false }
-    ensures { let seen = devices I.Inlet O.Outlet E.Outlet in
-        Made stream (seen input.old output errors.old) (seen input.new result.0 errors.new) result.1 }
+    requires { Ready I.Inlet O.Outlet input.old output }
+    ensures { Made stream (devices I.Inlet O.Outlet E.Outlet input.old output errors.old)
+        (devices I.Inlet O.Outlet E.Outlet input.new result.0 errors.new) result.1 }
 {
     if stream {
         let (output, made) = make_page(alloc, input, output);
-        let status = report_end(verdict_of_page(made), errors);
-        return (output, status);
+        return (output, report_end(verdict_of_page(made), errors));
     }
-    let mut output = output;
-    let ended = print_page(alloc, input, &mut output);
-    let status = report_end(ended, errors);
-    (output, status)
+    let (output, ended) = print_found(output, find_page(alloc, input));
+    (output, report_end(ended, errors))
 }

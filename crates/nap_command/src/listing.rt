@@ -7,7 +7,7 @@ ghost use Rattle.nap_list.specs.Reading.{IsReadWhole, Reading, reading};
 ghost use Rattle.nap_lines.specs.Printing.{Closes, line_memory};
 ghost use Rattle.nap_command.specs.Commands.{EndsListed, EndsSo, Fails, IsStream};
 
-use crate::answer::{Verdict, bytes_of_hex};
+use crate::answer::{Ending, Verdict, bytes_of_hex};
 use crate::command::{Action, Command};
 use crate::device::read_whole;
 use crate::execution::print_found;
@@ -44,12 +44,11 @@ fn read_page<I: Inlet>(alloc: Global, command: &Command, input: &mut I) -> Resul
     Ok(KeptPage { page, memory })
 }
 
+/// The count of a page's entries in both readings.
+type CountedTwice = Result<CountSink, TwiceFault>;
+
 /// Flushes the output of `list`, unless a write has failed, and returns how the command ends.
-fn end_list<O: Outlet>(
-    output: &mut O,
-    written: u64,
-    read: Result<CountSink, TwiceFault>,
-) -> Result<Verdict, Failure>
+fn end_list<O: Outlet>(output: &mut O, written: u64, read: CountedTwice) -> Ending
     ensures taken { Keeps (O.taken output.old) (O.taken output.new) }
     ensures failed { O.failed output.old ≡ true → O.failed output.new ≡ true }
     ensures sent { O.failed output.new ≡ false → O.sent output.new ≡ true }
@@ -69,10 +68,7 @@ fn end_list<O: Outlet>(
 
 /// Returns the output of a printer, and the number of bytes that it took. Sends the buffered lines first if both
 /// readings accepted the page.
-fn finished<O: Outlet + Drop>(
-    printer: LinePrinter<O>,
-    read: &Result<CountSink, TwiceFault>,
-) -> (O, u64)
+fn finished<O: Outlet + Drop>(printer: LinePrinter<O>, read: &CountedTwice) -> (O, u64)
     ensures { MatchResult read.now (λ _. Closes O.Outlet printer result.0 result.1) (λ _. (result.0 ≡ printer.outlet) × (result.1 ≡ printer.written)) }
 {
     match read {
@@ -87,7 +83,7 @@ fn print_lines<O: Outlet + Drop>(
     command: &Command,
     kept: KeptPage,
     output: O,
-) -> (O, Result<Verdict, Failure>)
+) -> (O, Ending)
     requires list { command.now.action ≡ Action.List }
     requires works { O.failed output ≡ false }
     ensures ends { (q : List ℕ) × Appends (O.taken output) (O.taken result.0) q
@@ -115,7 +111,7 @@ pub(crate) fn print_list<I: Inlet, O: Outlet + Drop>(
     command: &Command,
     input: &mut I,
     output: O,
-) -> (O, Result<Verdict, Failure>)
+) -> (O, Ending)
     requires calls { I.calls input.old < 2 ^ 63 }
     requires list { command.now.action ≡ Action.List }
     requires works { O.failed output ≡ false }
@@ -128,10 +124,6 @@ pub(crate) fn print_list<I: Inlet, O: Outlet + Drop>(
 {
     match read_page(alloc, command, input) {
         Ok(kept) => print_lines(alloc, command, kept, output),
-        Err(failure) => {
-            let mut output = output;
-            let ended = print_found(&mut output, Err(failure));
-            (output, ended)
-        }
+        Err(failure) => print_found(output, Err(failure)),
     }
 }

@@ -1,11 +1,10 @@
-use Rattle.nap_draw.proofs.Common.{Acts, ActsByRule, ActsFully, AllFit, AppliesControl, Bool, Cause, DrawFault, DrawsBy, Entry, Err, Fills, Ghosts, GivesSome, IsErrAnd, IsErrOf, List, None, Ok, Opcode, Option, PutsList, Result, RuleRefuses, RuleResult, SetsWork, SinkFault, Some, State, StatesAgree, WantsBy, WantsMore, Work, [], ap, clears_nothing, device, draw_cause, false, fault_of, inl, inr, memory, refl, rule, sink_model_of, some_breaks, some_stops, some_wants, stream, subst, sym, true, walk, ℕ, ◌∙◌, ◌≡◌, ◌≢◌, ◌⊎◌}
+use Rattle.nap_draw.proofs.Common.{Acts, ActsByRule, ActsFully, AllFit, AppliesControl, Bool, Cause, DrawFault, DrawsBy, Entry, Err, Fills, Ghosts, GivesSome, IsErrAnd, IsErrOf, List, None, Ok, Opcode, Option, PutsList, Result, RuleRefuses, RuleResult, SetsWork, SinkFault, Some, State, StatesAgree, WantsBy, WantsMore, Work, [], ap, arith, clears_nothing, draw_cause, false, fault_of, inl, refl, rule, rule_result, sink_model_of, some_stops, some_wants, stream, subst, sym, true, walk, ℕ, ◌∙◌, ◌≡◌, ◌≢◌}
 
 -- The steps in which a code is executed, put together.
 
 -- what holds of a fault holds of the result that `?` makes of it
 pub passed : {A : Type 0} (P : Result A DrawFault → Type 0) (fault : DrawFault) (r : Result A DrawFault) → IsErrAnd r (λ e. e ≡ fault) → P (Err fault) → P r
-passed P fault (Ok x) is holds = absurd is
-passed P fault (Err e) is holds = subst (λ (e : DrawFault). P (Err e)) (sym is) holds
+passed P fault r h h2 = grind arith
 
 -- the rule refuses the code
 pub sets_refused : (by : Result RuleResult DrawFault) (w : Work) (fault : DrawFault) (r : Result (Unit {0}) DrawFault) → IsErrAnd r (λ e. e ≡ fault) → draw_cause fault ≡ stream → by ≡ Err fault →
@@ -14,9 +13,7 @@ sets_refused by w fault r is cause refused = passed (SetsWork by w w) fault r is
 
 module _ {S : Type 0} (g : Ghosts S) (s : S) (none : g.took s [] s) where
   drawn_not : (by : Result RuleResult DrawFault) (fault : DrawFault) (cause : Cause) → RuleRefuses by fault cause → DrawsBy g.took g.broke g.failed by s s fault cause
-  drawn_not by fault stream refused = (refused, refl)
-  drawn_not by fault memory refused = absurd refused
-  drawn_not by fault device refused = absurd refused
+  drawn_not by fault cause h = grind arith
 
   never_device : (by : Result RuleResult DrawFault) (fault : DrawFault) → RuleRefuses by fault (draw_cause fault) → fault ≡ DrawFault.Sink → g.failed s ≡ true
   never_device by fault refused is = absurd (subst (λ (fault : DrawFault). RuleRefuses by fault (draw_cause fault)) is refused)
@@ -30,8 +27,7 @@ module _ {S : Type 0} (g : Ghosts S) (s : S) (none : g.took s [] s) where
   -- an opcode that puts nothing
   pub sets_does : (short : Type 0) (by : Result RuleResult DrawFault) (w v : Work) (r : Result (Unit {0}) DrawFault) → SetsWork by w v r → ActsByRule g clears_nothing short by w v s s r
   unfolding walk
-  sets_does short by w v (Ok _) sets = ([], sets, none, refl, λ clear. clear)
-  sets_does short by w v (Err fault) sets = (sets.0, drawn_not by fault (draw_cause fault) sets.1, never_device by fault sets.1, still fault, λ is. absurd (never_memory by fault sets.1 is))
+  sets_does short by w v r h = grind (arith, drawn_not, never_device, still, never_memory)
 
   -- the rule's row is that of the opcode
   pub sets_acts : (short : Type 0) (w v : Work) (op row : Opcode) (run : List ℕ) (r : Result (Unit {0}) DrawFault) → op ≡ row → SetsWork (rule w row run) w v r → ActsByRule g clears_nothing short (rule w op run) w v s s r
@@ -66,14 +62,7 @@ module _ {S : Type 0} (g : Ghosts S) where
   -- one of the rule's entries wasn't taken
   stopped : {A : Type 0} (clears : A → Bool) (short : Type 0) (by : Result RuleResult DrawFault) (w : Work) (s t : S) (d : RuleResult) (e : SinkFault) →
       by ≡ Ok d → PutsList {S = S} {A = Unit {0}} g d.entries s t (Err e) → ActsByRule g clears short by w w s t (Err (fault_of e))
-  stopped clears short by w s t d SinkFault.Memory is put = (
-    refl,
-    (d, is, inr (some_stops (sink_model_of g) (Unit {0}) s t d.entries put)),
-    λ e. (let bad : ⊥ = cc in absurd bad),
-    λ clear failed. let bad : ⊥ = cc (put.2.memory refl, failed) in absurd bad,
-    λ _. inr (_, put.1.wants),
-  )
-  stopped clears short by w s t d SinkFault.Write is put = (refl, (d, is, some_breaks (sink_model_of g) (Unit {0}) s t d.entries put), λ _. put.2.write refl, λ clear failed. refl, λ e. (let bad : ⊥ = cc in absurd bad))
+  stopped clears short by w s t d e h h2 = grind arith
 
   pub does_stop : {A : Type 0} (clears : A → Bool) (short : Type 0) (by : Result RuleResult DrawFault) (w : Work) (s t : S) (d : RuleResult) (e : SinkFault) (r : Result A DrawFault) → IsErrAnd r (λ f. f ≡ fault_of e) →
       by ≡ Ok d → PutsList {S = S} {A = Unit {0}} g d.entries s t (Err e) → ActsByRule g clears short by w w s t r
@@ -87,28 +76,18 @@ module _ {S : Type 0} (g : Ghosts S) where
   -- the code acted, and could also lack memory for points
   pub does_widely : {A : Type 0} (clears : A → Bool) (short : Type 0) (by : Result RuleResult DrawFault) (w v : Work) (s t : S) (r : Result A DrawFault) →
       ActsByRule g clears ⊥ by w v s t r → ActsByRule g clears short by w v s t r
-  does_widely clears short by w v s t (Ok x) does = does
-  does_widely clears short by w v s t (Err fault) does = (does.0, does.1, does.2, does.3, λ is. widen (does.4 is))
-    where
-      widen : {A B : Type 0} → ⊥ ⊎ B → A ⊎ B
-      widen (inl bad) = absurd bad
-      widen (inr wants) = inr wants
+  does_widely clears short by w v s t r h = grind arith
 
   -- the points were decoded into a list, and the rest of the rule was done
   pub does_filled : {A B : Type 0} (short : Type 0) (by : Result RuleResult DrawFault) (w v : Work) (s t : S) (r : Result (Unit {0}) DrawFault) (f : Option (List A) → Result RuleResult DrawFault) (list_of : List B → List A)
       (all : Option (List A)) (list points : List B) → by ≡ f all → all ≡ Some (list_of list) → points ≡ list → ActsByRule g clears_nothing ⊥ (f (Some (list_of points))) w v s t r → ActsByRule g clears_nothing short by w v s t r
-  does_filled {B = B} short by w v s t r f list_of all list points is fills same does =
-      does_as clears_nothing short by (f (Some (list_of points))) w v s t r (is ∙ ap f (fills ∙ ap (λ (xs : List B). Some (list_of xs)) (sym same))) (does_widely clears_nothing short _ w v s t r does)
+  does_filled {B = B} short by w v s t r f list_of all list points is fills same does = grind (arith, does_as, does_widely)
 
   -- a character or a control
 
   -- the rule's entries were taken
   pub obeys_fully : (by : Result RuleResult DrawFault) (w v : Work) (s t : S) → ActsFully g by w v s t → AppliesControl g by w v s t (Ok tt)
-  obeys_fully by w v s t does = record {
-    does = does;
-    wants = λ e. let bad : ⊥ = cc in absurd bad;
-    gives = λ e. let bad : ⊥ = cc in absurd bad;
-  }
+  obeys_fully by w v s t does = grind arith
 
   pub obeys_put : (by : Result RuleResult DrawFault) (w v : Work) (s t : S) (list : List Entry) →
       by ≡ Ok (record { entries = list; work = v; clears = false }) → PutsList {S = S} {A = Unit {0}} g list s t (Ok tt) → AppliesControl g by w v s t (Ok tt)
@@ -124,7 +103,7 @@ module _ {S : Type 0} (g : Ghosts S) where
       wanting SinkFault.Write put e = let bad : ⊥ = cc in absurd bad
 
   -- nothing is put
-  pub obeys_quietly : (by : Result RuleResult DrawFault) (w v : Work) (s : S) → g.took s [] s → by ≡ Ok (record { entries = []; work = v; clears = false }) → AppliesControl g by w v s s (Ok tt)
+  pub obeys_quietly : (by : Result RuleResult DrawFault) (w v : Work) (s : S) → g.took s [] s → by ≡ Ok (rule_result v []) → AppliesControl g by w v s s (Ok tt)
   obeys_quietly by w v s none is = obeys_fully by w v s s (sets_does g s none ⊥ by w v (Ok tt) is)
 
   -- what a code did, as a caller sees it

@@ -1,4 +1,4 @@
-use Rattle.nap_draw.proofs.Common.{List, [], addresses, ap, arith, cut_operands, drop, drop-map, length, length-map, map, map-append, min, moves, multi_of, operand_words, operands, refl, single_of, sym, take, take-map, ℕ, ◌%◌, ◌++◌, ◌<◌, ◌∙◌, ◌∷◌, ◌≡◌, ◌≤◌}
+use Rattle.nap_draw.proofs.Common.{List, [], addresses, ap, arith, cut_operands, drop, drop-map, length, length-map, map, map-append, min, moves, multi_of, operand_words, operands, single_of, sym, take, take-map, ℕ, ◌%◌, ◌++◌, ◌<◌, ◌∙◌, ◌∷◌, ◌≡◌, ◌≤◌}
 use Rattle.nap_draw.proofs.Cuts as words
 
 -- A run of bytes is cut as the words that they carry.
@@ -34,15 +34,11 @@ moves_turn k n run front after some more is first rest =
     words.moves_turn k n (operand_words run) (operand_words front) (operand_words after) some (omega (arith, carried_length run)) (omega (arith, carried_length run)) (words_prefix n run front first) (carried_rest n run after rest)
 
 three_again : (run : List ℕ) → take 3 (take 8 run) ≡ take 3 run
-three_again [] = refl
-three_again (a ∷ []) = refl
-three_again (a ∷ b ∷ []) = refl
-three_again (a ∷ b ∷ c ∷ run) = refl
+three_again run = grind arith
 
 -- a run whose first operand of three words is read from its first eight bytes
 pub three_of_eight : (run block after : List ℕ) → 3 ≤ length run → block ≡ take 8 run → after ≡ drop 3 run → moves 3 (operand_words run) ≡ multi_of (operand_words (take 3 block)) ∷ moves 3 (operand_words after)
-three_of_eight run block after long first rest =
-    moves_turn 3 3 run (take 3 block) after (omega arith) (omega arith) (omega arith) (ap (take 3) first ∙ three_again run) rest
+three_of_eight run block after long first rest = grind (arith, moves_turn, three_again)
 
 -- a chunk that was cut off at the start of a run is its first operand
 pub operands_chunk : (k size : ℕ) (left x rest : List ℕ) → size ≡ k → 1 ≤ k → left ≡ x ++ rest → length x ≡ min size (length left) → 0 < length left →
@@ -65,8 +61,7 @@ module _ (k size most value : ℕ) (run left x rest : List ℕ) (all : left ≡ 
 
   pub two_operands : (still : ℕ) (y others : List ℕ) → still ≡ size → rest ≡ y ++ others → length y ≡ min still (length rest) → 0 < length rest →
       operands k (operand_words run) ≡ operand_words x ∷ operand_words y ∷ operands k (operand_words others)
-  two_operands still y others kept parts long more =
-      first_operand ∙ ap (λ (os : List (List ℕ)). operand_words x ∷ os) (operands_chunk k still rest y others (omega arith) (omega arith) parts long more)
+  two_operands still y others kept parts long more = grind (arith, first_operand, operands_chunk)
 
 -- a run of one operand of three words
 pub one_of_three : (k : ℕ) (run : List ℕ) → k ≡ 3 → length run ≡ 3 → moves k (operand_words run) ≡ multi_of (operand_words run) ∷ []

@@ -7,7 +7,7 @@ pub use Rattle.nap_draw.specs.Codes.{IsMade, char_on, code_as, code_rule, defini
 unfoldable pub use Rattle.nap_draw.specs.Codes.{drawn_text, repeated_chars}
 pub use Rattle.nap_draw.specs.Counted.{ActsFully, Arrives, Displaces}
 pub use Rattle.nap_draw.specs.Draws.{Cause, DrawsBy, device, draw_cause, fault_of, memory, stream}
-pub use Rattle.nap_draw.specs.Execution.{ActsByRule, AppliesControl, Filling, Fills, Holding, LacksPlaces, MayFollow, PutsList, PutsSoFar, RuleRefuses, SetsWork, chain_spans, clears_nothing, definition_start, displaced_points, figure_end, figure_entry, shape_from, shape_result, start_size, with_pen_moved, with_pen_moved_to}
+pub use Rattle.nap_draw.specs.Execution.{ActsByRule, AppliesControl, Filling, Fills, Holding, LacksPlaces, MayFollow, PutsList, PutsSoFar, RuleRefuses, SetsWork, clears_nothing, definition_start, displaced_points, figure_end, figure_entry, shape_from, shape_result, start_size, trail_entry, trail_result, with_pen_moved, with_pen_moved_to}
 unfoldable pub use Rattle.nap_draw.specs.Execution.{pair_spans, rect_spans, span_ends}
 unfoldable pub use Rattle.nap_draw.specs.Geometry.{absolute_spans, last_or, points_at, points_reached, polyline_spans, rect_chain_spans, relative_spans}
 pub use Rattle.nap_draw.specs.Geometry.{arc_points, cons_if_all, poly_points, span, span_by}
@@ -21,6 +21,7 @@ pub use Rattle.nap_draw.specs.declared.fault.DrawFault.{DrawFault}
 pub use Rattle.nap_draw.specs.declared.figures.ShapeStart.{ShapeStart}
 pub use Rattle.nap_draw.specs.declared.figures.Figure.{Figure}
 pub use Rattle.nap_draw.specs.declared.figures.Span.{Span}
+pub use Rattle.nap_draw.specs.declared.points.Trail.{Trail}
 pub use Rattle.nap_draw.specs.declared.work.Work.{Work}
 pub use Rattle.nap_list.proofs.PublicLaws.{agreeing_fits, fits_join, taking_nothing, text_leaves, typed_made, walks_join}
 unfoldable pub use Rattle.nap_list.specs.Batches.{polyline_entries, text_entries_in}

@@ -1,9 +1,9 @@
-use Rattle.nap_draw.proofs.Common.{ActsFully, Arrives, Base, Bool, Colour, Coordinates, Course, Displacement, Displaces, DrawFault, Drawing, Entry, Filling, Ghosts, IfSome, List, ModeZeroIsBase, None, Ok, Option, Result, RuleResult, Some, Span, State, TakesAll, Work, [], after, ap, arith, base_after, cons_if_all, displaced_point, drop, entries_result, false, get_or, is_some, last_or, length, length-append, length-drop, length-map, map, moves, multi_of, operand_words, option_map, point_at, point_entry, points_at, points_reached, polyline_spans, refl, sink_model_of, slice_index, span_line_entry, suc, sym, take, true, walk, with_pen_moved_to, ℕ, ◌%◌, ◌&&◌, ◌*◌, ◌++◌, ◌+◌, ◌-◌, ◌/◌, ◌<◌, ◌∙◌, ◌∷◌, ◌≡◌, ◌≤◌}
+use Rattle.nap_draw.proofs.Common.{ActsFully, Arrives, Base, Bool, Colour, Coordinates, Course, Displaces, DrawFault, Drawing, Entry, Filling, Ghosts, IfSome, List, ModeZeroIsBase, None, Ok, Option, Result, RuleResult, Some, Span, State, TakesAll, Trail, Work, [], after, ap, arith, base_after, drop, entries_result, false, get_or, is_some, last_or, length, length-append, length-drop, length-map, map, moves, multi_of, operand_words, option_map, point_at, point_entry, points_at, points_reached, polyline_spans, refl, sink_model_of, slice_index, span_line_entry, suc, sym, take, trail_entry, trail_result, true, walk, with_pen_moved_to, ℕ, ◌%◌, ◌&&◌, ◌*◌, ◌+◌, ◌-◌, ◌/◌, ◌<◌, ◌∙◌, ◌∷◌, ◌≡◌, ◌≤◌}
 use Rattle.nap_draw.proofs.ByteRuns.{moves_turn}
 use Rattle.nap_draw.proofs.Cuts.{moves_none}
-use Rattle.nap_draw.proofs.Decoding.{filling_begins, filling_end, filling_more}
-use Rattle.nap_draw.proofs.Turns.{cons_if_all_more, points_turn, reached_turn}
-use Rattle.nap_draw.proofs.Walks.{Lands, draws_end}
+use Rattle.nap_draw.proofs.Decoding.{cons_if_all_more, filling_begins, filling_end, filling_more, points_turn, reached_turn}
+use Rattle.nap_draw.proofs.Results.{end_after}
+use Rattle.nap_draw.proofs.Walks.{Lands, draws_end, line_lands, point_lands}
 
 -- Points that are only counted.
 
@@ -14,7 +14,7 @@ module _ {A : Type 0} (entry : A → Entry) (again : (s : State) (x y : A) → a
   leaves_from s x last [] is = ap (λ (y : A). after s (entry y)) (let same : x ≡ last = cc in same)
   leaves_from s x last (y ∷ xs) is = leaves_from (after s (entry x)) y last xs is ∙ again s x last
 
-  pub leaves_last : (s : State) (last : A) (xs : List A) → last_or None xs ≡ Some last → walk s (map entry xs) ≡ after s (entry last)
+  leaves_last : (s : State) (last : A) (xs : List A) → last_or None xs ≡ Some last → walk s (map entry xs) ≡ after s (entry last)
   unfolding last_or
   leaves_last s last [] is = let bad : ⊥ = cc in absurd bad
   leaves_last s last (x ∷ xs) is = leaves_from s x last xs is
@@ -43,11 +43,6 @@ pub point_again : (d : Drawing) (s : State) (p q : Coordinates) → after (after
 point_again d s p q = ap (λ (base : Base). record (after s (point_entry d q)) { drawing = record (after s (point_entry d q)).drawing { base = base } }) (base_twice s.drawing.base d.colour)
 
 -- the end of a list
-last_append : {A : Type 0} (o : Option A) (xs : List A) (x : A) → last_or o (xs ++ x ∷ []) ≡ Some x
-unfolding last_or
-last_append o [] x = refl
-last_append o (y ∷ xs) x = last_append (Some y) xs x
-
 last_some : {A : Type 0} (o : Option A) (xs : List A) → 0 < length xs → last_or None xs ≡ last_or o xs
 unfolding last_or
 last_some o [] some = absurd (omega arith)
@@ -76,7 +71,7 @@ along_more from run old new rest front after moved long first then so inside =
     (λ e. e)
     (λ prefix e kept. record {
       many = omega (arith, kept.many, length-append prefix (new.point ∷ []), ap length then, length-drop 3 rest, long);
-      last = last_append (Some from) prefix new.point;
+      last = end_after (Some from) prefix new.point;
     })
 
 pub along_ends : (from : Coordinates) (run : List ℕ) (at : Coordinates) (rest : List ℕ) → 0 < length run → length rest ≡ 0 → Along from run at rest → Arrives (points_reached from (moves 3 (operand_words run))) (length run / 3) at
@@ -94,8 +89,7 @@ pub bytes_left : (rest after : List ℕ) → after ≡ drop 3 rest → length af
 bytes_left rest after is = ap length is ∙ length-drop 3 rest
 
 pub three_bytes : (rest : List ℕ) → length rest ≡ 3 → get_or rest 0 0 ∷ get_or rest 1 0 ∷ get_or rest 2 0 ∷ [] ≡ take 3 rest
-three_bytes (a ∷ b ∷ c ∷ []) len = refl
-three_bytes _ len = absurd (omega arith)
+three_bytes rest h = grind arith
 
 pub if_some_map : {A : Type 0} (P Q : A → Type 0) (o : Option A) → IfSome o P → ((x : A) → P x → Q x) → IfSome o Q
 if_some_map P Q None is so = is
@@ -116,9 +110,7 @@ Spelt k run rest last =
     Filling (points_at all) (points_at left) false (Ends (length all) (length left) last)
 
 pub spelt_starts : (k : ℕ) (run : List ℕ) → Spelt k run run []
-spelt_starts k run =
-    let all = length (moves k (operand_words run)) in
-    filling_begins _ _ false (Ends all all []) refl (record { many = omega arith; last = λ some. absurd (omega arith) })
+spelt_starts k run = grind (arith, filling_begins)
 
 pub spelt_more : (k : ℕ) (run rest last front after : List ℕ) (was begins : Bool) → 0 < length front → moves k (operand_words rest) ≡ multi_of (operand_words front) ∷ moves k (operand_words after) →
     ((tail : List ℕ) → begins ≡ is_some (point_at (multi_of (operand_words (slice_index front 0 ∷ tail))))) → (was ≡ true → Spelt k run rest last) → (was && begins) ≡ true → Spelt k run after front
@@ -131,7 +123,7 @@ spelt_more k run rest last (x ∷ xs) after true begins some cut says spelt both
     by (Some p) at inside = filling_more _ _ _ p false false (Ends _ _ last) (Ends _ _ (x ∷ xs)) (spelt refl)
         (cons_if_all_more _ _ p (λ _. points_at (moves k (operand_words after))) (points_turn _ _ _ cut) at)
         (λ e. e)
-        (λ prefix e kept. record { many = omega (arith, kept.many, length-append prefix (p ∷ []), ap length cut); last = λ some. last_append None prefix p ∙ sym at })
+        (λ prefix e kept. record { many = omega (arith, kept.many, length-append prefix (p ∷ []), ap length cut); last = λ some. end_after None prefix p ∙ sym at })
 
 pub spelt_ends : (k : ℕ) (run rest last : List ℕ) (o : Option Coordinates) → 0 < length last → length rest ≡ 0 → o ≡ point_at (multi_of (operand_words last)) → Spelt k run rest last →
     IfSome o (λ at. Arrives (points_at (moves k (operand_words run))) (length (moves k (operand_words run))) at)
@@ -148,10 +140,10 @@ spelt_ends k run rest last (Some p) some none at spelt =
 
 -- lines through points
 
-pub line_again : (d : Drawing) (s : State) (x y : Span) → after (after s (span_line_entry d x)) (span_line_entry d y) ≡ after s (span_line_entry d y)
+line_again : (d : Drawing) (s : State) (x y : Span) → after (after s (span_line_entry d x)) (span_line_entry d y) ≡ after s (span_line_entry d y)
 line_again d s x y = ap (λ (base : Base). record (after s (span_line_entry d y)) { drawing = record (after s (span_line_entry d y)).drawing { base = base } }) (base_twice s.drawing.base d.colour)
 
-pub spans_many : (p : Coordinates) (qs : List Coordinates) → length (polyline_spans p qs) ≡ length qs
+spans_many : (p : Coordinates) (qs : List Coordinates) → length (polyline_spans p qs) ≡ length qs
 unfolding polyline_spans
 spans_many p [] = refl
 spans_many p (q ∷ qs) = ap suc (spans_many q qs)
@@ -162,7 +154,17 @@ spans_from o p q end [] is = let same : q ≡ end = cc in (p, ap (λ (to : Coord
 spans_from o p q end (r ∷ qs) is = spans_from (Some (record { from = p; to = q })) q r end qs is
 
 -- the last line leads to the last point
-pub spans_last : (p end : Coordinates) (qs : List Coordinates) → last_or None qs ≡ Some end → (from : Coordinates) × (last_or None (polyline_spans p qs) ≡ Some (record { from = from; to = end }))
+spans_last : (p end : Coordinates) (qs : List Coordinates) → last_or None qs ≡ Some end → (from : Coordinates) × (last_or None (polyline_spans p qs) ≡ Some (record { from = from; to = end }))
 unfolding last_or
 spans_last p end [] is = let bad : ⊥ = cc in absurd bad
 spans_last p end (q ∷ qs) is = spans_from None p q end qs is
+
+-- points, or lines through them, of which only the last was made
+pub trail_counted : {S : Type 0} (g : Ghosts S) (trail : Trail) (w v : Work) (s t : S) (from to : Coordinates) (ps : List Coordinates) (n : ℕ) → ModeZeroIsBase w.state.drawing.base w.state.drawing.colour →
+    last_or None ps ≡ Some to → length ps ≡ n → v ≡ record w { state = with_pen_moved_to w.state (Some to) } →
+    ((list : List Entry) → length list ≡ n → walk (g.state s) list ≡ after (g.state s) (trail_entry trail w.state.drawing from to) → TakesAll (sink_model_of g) list s t) →
+    ActsFully g (trail_result trail w from (Some ps)) w v s t
+trail_counted g Trail.Points w v s t from to ps n mode last many moved took = acts_counted point_entry _ point_lands point_again g w v s t ps to n mode last many moved took
+trail_counted g Trail.Lines w v s t from to ps n mode last many moved took =
+    let (start, end) = spans_last from to ps last in
+    acts_counted span_line_entry _ line_lands line_again g w v s t (polyline_spans from ps) (record { from = start; to = to }) n mode end (spans_many from ps ∙ many) moved took

@@ -17,15 +17,11 @@ cut_operands-first k (suc lacking) operand (word ∷ words) =
 pub operands-first : (k : ℕ) (run : List ℕ) → 1 ≤ k → 0 < length run →
     operands k run ≡ take (min k (length run)) run ∷ operands k (drop (min k (length run)) run)
 unfolding operands
-operands-first k [] some more = absurd (omega arith)
-operands-first k (word ∷ words) some more =
-    let e : min k (suc (length words)) ≡ suc (min (k - 1) (length words)) = omega arith in
-    cut_operands-first k (k - 1) (word ∷ []) words ∙ rw e refl
+operands-first k run h h2 = grind (arith, cut_operands-first)
 
 pub operands_none : (k : ℕ) (run : List ℕ) → length run ≡ 0 → operands k run ≡ []
 unfolding operands
-operands_none k [] none = refl
-operands_none k (word ∷ words) none = absurd (omega arith)
+operands_none k run h = grind arith
 
 pub moves_none : (k : ℕ) (run : List ℕ) → length run ≡ 0 → moves k run ≡ []
 moves_none k run none = ap (map multi_of) (operands_none k run none)
@@ -48,11 +44,7 @@ some_ok xs ys x is = ap at_least_one is ∙ ap Ok (sym is)
 
 pub more_of : (work : Work) (run : List ℕ) → length run ≢ 0 → (f : List Displacement → Result RuleResult DrawFault) → with_operands work run f ≡ f (moves_of work run)
 unfolding operands
-more_of work [] more f = absurd (more refl)
-more_of work (word ∷ words) more f =
-    let k = work.domain.multi in
-    let e = ap (map multi_of) (cut_operands-first k (k - 1) (word ∷ []) words) in
-    ap (λ ms. and_then ms f) (some_ok _ _ _ e)
+more_of work run h f = grind (arith, cut_operands-first, some_ok)
 
 -- how many operands there are
 
@@ -95,11 +87,7 @@ moves_count_is k run some = length-map (operands k run) multi_of ∙ count_withi
 -- a chunk that was cut off at the start of a run is its first operand
 pub operands_chunk : (k size : ℕ) (left x rest : List ℕ) → size ≡ k → 1 ≤ k → left ≡ x ++ rest → length x ≡ min size (length left) → 0 < length left →
     operands k left ≡ x ∷ operands k rest
-operands_chunk k size left x rest is some parts long more =
-    let n : min k (length left) ≡ length x = omega arith in
-    let front : take (min k (length left)) left ≡ x = ap (λ (n : ℕ). take n left) n ∙ (ap (take (length x)) parts ∙ take-append_seam x rest) in
-    let back : drop (min k (length left)) left ≡ rest = ap (λ (n : ℕ). drop n left) n ∙ (ap (drop (length x)) parts ∙ drop-append_seam x rest) in
-    operands-first k left some more ∙ (ap (λ (o : List ℕ). o ∷ operands k (drop (min k (length left)) left)) front ∙ ap (λ (l : List ℕ). x ∷ operands k l) back)
+operands_chunk k size left x rest is some parts long more = grind (arith, take-append_seam, drop-append_seam, operands-first)
 
 pub moves_chunk : (k size : ℕ) (left x rest : List ℕ) → size ≡ k → 1 ≤ k → left ≡ x ++ rest → length x ≡ min size (length left) → 0 < length left →
     moves k left ≡ multi_of x ∷ moves k rest
@@ -108,29 +96,11 @@ moves_chunk k size left x rest is some parts long more = ap (map multi_of) (oper
 -- a run whose first operand was cut off
 
 pub run_some : (k n : ℕ) (run after : List ℕ) → after ≡ drop n run → 0 < length (moves k after) → 0 < length run
-run_some k n (x ∷ xs) after is some = omega arith
-run_some k n [] after is some =
-    let nothing : List ℕ = [] in
-    let none : length after ≡ 0 = omega (arith, ap length is, length-drop n nothing) in
-    absurd (omega (arith, ap length (moves_none k after none)))
+run_some k n run after h h2 = grind (arith, length-drop, moves_none)
 
 pub one_at_most : (k n : ℕ) (run front after : List ℕ) → 1 ≤ k → n ≡ min k (length run) → front ≡ take n run → after ≡ drop n run → length (moves k after) ≡ 0 → length (moves k run) ≤ 1
-one_at_most k n [] front after some is first rest none = omega (arith, ap length (moves_none k [] refl))
-one_at_most k n (x ∷ xs) front after some is first rest none =
-    omega (arith, ap length (moves_turn k n (x ∷ xs) front after some (omega arith) is first rest))
+one_at_most k n run front after h h2 h3 h4 h5 = grind (arith, moves_none, moves_turn)
 
 -- there are more operands than n if there are more words than n operands have
 pub more_than : (n k : ℕ) (run : List ℕ) → 1 ≤ k → nat_lt n (length (moves k run)) ≡ nat_lt (n * k) (length run)
-more_than n k run some = ap (nat_lt n) (moves_count_is k run some) ∙ at (nat_lt n (div_ceil (length run) k)) refl
-  where
-    at : (b : Bool) → nat_lt n (div_ceil (length run) k) ≡ b → nat_lt n (div_ceil (length run) k) ≡ nat_lt (n * k) (length run)
-    at true more =
-        let bounds = div_ceil_times (length run) k some in
-        let most : suc n * k ≤ div_ceil (length run) k * k = mul-le (suc n) k (div_ceil (length run) k) k (grind (arith, nat_tests)) (omega arith) in
-        let less : n * k < length run = grind (arith, nat_tests) in
-        grind (arith, nat_tests)
-    at false few =
-        let bounds = div_ceil_times (length run) k some in
-        let most : div_ceil (length run) k * k ≤ n * k = mul-le (div_ceil (length run) k) k n k (grind (arith, nat_tests)) (omega arith) in
-        let least : length run ≤ n * k = grind (arith, nat_tests) in
-        grind (arith, nat_tests)
+more_than n k run some = grind (arith, nat_tests, moves_count_is, div_ceil_times, mul-le, nat_tests)

@@ -25,8 +25,7 @@ moves_join k count (word ∷ words) more whole = absurd (omega arith)
 -- the first step gave a result if both steps together did
 
 and_ok : {A B : Type 0} (r : Result A DrawFault) (f : A → Result B DrawFault) (y : B) → and_then r f ≡ Ok y → (x : A) × (r ≡ Ok x) × (f x ≡ Ok y)
-and_ok (Ok x) f y is = (x, refl, is)
-and_ok (Err fault) f y is = let bad : ⊥ = cc in absurd bad
+and_ok r f y h = grind arith
 
 -- a check of operands that doesn't change them, and that passes two lists joined if it passes each
 record Gate (gate : List Displacement → Result (List Displacement) DrawFault) : Type 0 where
@@ -34,19 +33,10 @@ record Gate (gate : List Displacement → Result (List Displacement) DrawFault) 
   both : (ms ns : List Displacement) → gate ms ≡ Ok ms → gate ns ≡ Ok ns → gate (ms ++ ns) ≡ Ok (ms ++ ns)
 
 some_gate : Gate at_least_one
-some_gate = record { same = same; both = both }
-  where
-    same : (ms passed : List Displacement) → at_least_one ms ≡ Ok passed → passed ≡ ms
-    same [] passed is = cc
-    same (m ∷ ms) passed is = cc
-
-    both : (ms ns : List Displacement) → at_least_one ms ≡ Ok ms → at_least_one ns ≡ Ok ns → at_least_one (ms ++ ns) ≡ Ok (ms ++ ns)
-    both [] ns a b = b
-    both (m ∷ ms) ns a b = refl
+some_gate = grind arith
 
 cond_ok : {A : Type 0} (b : Bool) (x y : A) (fault : DrawFault) → cond b (Ok x) (Err fault) ≡ Ok y → (b ≡ true) × (y ≡ x)
-cond_ok true x y fault is = let e : y ≡ x = cc in (refl, e)
-cond_ok false x y fault is = let bad : ⊥ = cc in absurd bad
+cond_ok b x y fault h = grind arith
 
 pairs_gate : Gate complete_pairs
 pairs_gate = record { same = same; both = both }
@@ -114,8 +104,7 @@ module _ {A : Type 0} (entry : Ink → A → Entry) (keeps : Keeps entry) where
   of_some work o = entries_result work (λ d. entry (ink_of d)) o
 
   list_ok : (work : Work) (o : Option (List A)) (d : RuleResult) → of_some work o ≡ Ok d → (xs : List A) × (o ≡ Some xs) × (of_shapes work xs ≡ d)
-  list_ok work None d is = let bad : ⊥ = cc in absurd bad
-  list_ok work (Some xs) d is = let e : of_shapes work xs ≡ d = cc in (xs, refl, e)
+  list_ok work o d h = grind arith
 
   shapes_join : (work : Work) (xs ys : List A) → of_shapes work (xs ++ ys) ≡ as_one (of_shapes work xs) (of_shapes (of_shapes work xs).work ys)
   shapes_join work xs ys =

@@ -1,8 +1,7 @@
 use Rattle.nap_draw.proofs.Common.{CodeFits, CodeValuesAreInRange, DrawnValuesAreInRange, NoOperands, Opcode, OpcodesAreDrawn, RuleFits, RunsJoin, TextByteRule, WholeOperandFirst, arith, left_out_opcode, length-append, operands, refl, ◌++◌}
 use Rattle.nap_draw.proofs.Cuts.{operands_chunk}
 use Rattle.nap_draw.proofs.Fits as fits
-use Rattle.nap_draw.proofs.RangeLemmas as ranges
-use Rattle.nap_draw.proofs.CodeRanges as code_ranges
+use Rattle.nap_draw.proofs.Ranges as ranges
 use Rattle.nap_draw.proofs.JoinedRuns as joined_runs
 use Rattle.nap_draw.proofs.Texts as texts
 
@@ -18,7 +17,7 @@ pub drawn_values_are_in_range : DrawnValuesAreInRange
 drawn_values_are_in_range = ranges.drawn_values_are_in_range
 
 pub code_values_are_in_range : CodeValuesAreInRange
-code_values_are_in_range = code_ranges.code_values_are_in_range
+code_values_are_in_range = ranges.code_values_are_in_range
 
 pub opcodes_are_drawn : OpcodesAreDrawn
 unfolding left_out_opcode

@@ -1,4 +1,4 @@
-use Rattle.nap_draw.proofs.Common.{All, All-cons, All-filter, All-head, All-nil, All-tail, All-take, AllInRange, Attributes, Base, BaseInRange, Colour, ColourInRange, Components, Coordinates, Drawing, DrawingInRange, Entry, Hand, HandInRange, HasSixteenBitParts, IfSome, InRange, Ink, InkInRange, IsAddress, IsByte, IsInRange, IsInSquare, LastChar, List, MapColour, MapColourInRange, None, OpenDefinition, OpenedInRange, Option, Pen, PenInRange, Some, State, StateInRange, TextInRange, TextureInRange, [], after, arith, attributes, base_after, colour_code, colour_only, cond_both, corner, definition_after, effect_on_drawing, eqb, hand_attributes, ink_attributes, known_after, last_after, length, pen_only, reset, restored_drawing, slice_get, start_drawing, start_text, start_texture, suc, take, unwrap_or, walk, with_attributes, with_colour, with_known_colour, with_pen, with_pen_at, without_address, zero, ℕ, ◌%◌, ◌-◌, ◌/◌, ◌∷◌}
+use Rattle.nap_draw.proofs.Common.{All, All-cons, All-filter, All-head, All-nil, All-tail, All-take, AllInRange, Attributes, Base, BaseInRange, Colour, ColourInRange, Components, Coordinates, Drawing, DrawingInRange, Entry, Hand, HandInRange, HasSixteenBitParts, IfSome, InRange, Ink, InkInRange, IsAddress, IsByte, IsInRange, IsInSquare, LastChar, List, MapColour, MapColourInRange, OpenDefinition, OpenedInRange, Option, Pen, PenInRange, State, StateInRange, TextInRange, TextureInRange, [], after, arith, attributes, base_after, colour_code, colour_only, cond_both, corner, definition_after, effect_on_drawing, eqb, hand_attributes, ink_attributes, known_after, last_after, length, pen_only, reset, restored_drawing, slice_get, start_drawing, start_text, start_texture, suc, take, unwrap_or, walk, with_attributes, with_colour, with_known_colour, with_pen, with_pen_at, without_address, zero, ℕ, ◌%◌, ◌-◌, ◌/◌, ◌∷◌}
 
 -- A walk over entries in range, from a state in range, leads to a state in range.
 
@@ -11,14 +11,7 @@ pub start_text_ranged : TextInRange start_text
 start_text_ranged = record { first = omega arith; second = omega arith; size = tt }
 
 pub start_drawing_ranged : DrawingInRange start_drawing
-start_drawing_ranged = record {
-  pen = tt;
-  pel = (omega arith, omega arith, omega arith, omega arith);
-  base = tt;
-  colour = tt;
-  texture = start_texture_ranged;
-  text = start_text_ranged;
-}
+start_drawing_ranged = grind (arith, start_texture_ranged, start_text_ranged)
 
 -- the attributes that an entry holds
 
@@ -61,26 +54,13 @@ attributes_ranged _ r = record { pen = tt; pel = tt; colour = tt; texture = tt; 
 -- they become current
 
 pub unwrap_ranged : {A : Type 0} (P : A → Type 0) (o : Option A) (x : A) → IfSome o P → P x → P (unwrap_or o x)
-unwrap_ranged P None x some other = other
-unwrap_ranged P (Some y) x some other = some
+unwrap_ranged P o x h h2 = grind arith
 
 base_ranged : (base : Base) (colour : Option Colour) → BaseInRange base → IfSome colour ColourInRange → BaseInRange (base_after base colour)
-base_ranged base (Some (Colour.Direct grb)) current shown = shown
-base_ranged base (Some (Colour.Own origin)) current shown = current
-base_ranged base (Some (Colour.Front address)) current shown = current
-base_ranged base (Some (Colour.Pair front back)) current shown = current
-base_ranged base (Some (Colour.ByReset preset)) current shown = current
-base_ranged base None current shown = current
+base_ranged base colour h h2 = grind arith
 
 taking_ranged : (d : Drawing) (h : Attributes) → DrawingInRange d → AttributesInRange h → DrawingInRange (with_attributes d h)
-taking_ranged d h r taken = record {
-  pen = unwrap_ranged PenInRange h.pen d.pen taken.pen r.pen;
-  pel = unwrap_ranged IsInRange h.pel d.pel taken.pel r.pel;
-  base = base_ranged d.base h.colour r.base taken.colour;
-  colour = unwrap_ranged ColourInRange h.colour d.colour taken.colour r.colour;
-  texture = unwrap_ranged TextureInRange h.texture d.texture taken.texture r.texture;
-  text = unwrap_ranged TextInRange h.text d.text taken.text r.text;
-}
+taking_ranged d h r taken = grind (arith, unwrap_ranged, base_ranged)
 
 -- the effects of entries
 
@@ -88,8 +68,7 @@ pub with_pen_ranged : (pen : Pen) (d : Drawing) → PenInRange pen → DrawingIn
 with_pen_ranged pen d there r = record { pen = there; pel = r.pel; base = r.base; colour = r.colour; texture = r.texture; text = r.text }
 
 pub with_pen_at_ranged : (o : Option Coordinates) (d : Drawing) → IfSome o IsInSquare → DrawingInRange d → DrawingInRange (with_pen_at o d)
-with_pen_at_ranged None d inside r = r
-with_pen_at_ranged (Some p) d inside r = with_pen_ranged (Pen.At p) d inside r
+with_pen_at_ranged o d h h2 = grind (arith, with_pen_ranged)
 
 pub with_colour_ranged : (colour : Colour) (d : Drawing) → ColourInRange colour → DrawingInRange d → DrawingInRange (with_colour colour d)
 with_colour_ranged colour d new r = record { pen = r.pen; pel = r.pel; base = r.base; colour = new; texture = r.texture; text = r.text }
@@ -113,8 +92,7 @@ reset_ranged first second d r = record {
 }
 
 saved_ranged : (o : Option OpenDefinition) (d : Drawing) → IfSome o OpenedInRange → DrawingInRange d → DrawingInRange (restored_drawing o d)
-saved_ranged None d saved r = r
-saved_ranged (Some opened) d saved r = saved.saved
+saved_ranged o d h h2 = grind arith
 
 drawn_ranged : (o : Option OpenDefinition) (d : Drawing) (e : Entry) → IfSome o OpenedInRange → DrawingInRange d → InRange e → DrawingInRange (effect_on_drawing o d e)
 drawn_ranged o d (Entry.Point at pel colour) saved r new = with_pen_ranged (Pen.At at) d new.0 r
@@ -136,14 +114,10 @@ drawn_ranged o d Entry.DefEnd saved r new = saved_ranged o d saved r
 drawn_ranged o d _ saved r new = r
 
 definition_ranged : (o : Option OpenDefinition) (d : Drawing) (e : Entry) → IfSome o OpenedInRange → DrawingInRange d → InRange e → IfSome (definition_after o d e) OpenedInRange
-definition_ranged o d (Entry.GlyphStart code) saved r new = record { what = new; saved = r }
-definition_ranged o d (Entry.MaskStart mask) saved r new = record { what = tt; saved = r }
-definition_ranged o d Entry.DefEnd saved r new = tt
-definition_ranged o d _ saved r new = saved
+definition_ranged o d e h h2 h3 = grind arith
 
 last_ranged : (e : Entry) → InRange e → IfSome (last_after e) (λ (last : LastChar). IsByte last.code)
-last_ranged (Entry.Char set code hand) new = new.0
-last_ranged _ new = tt
+last_ranged e h = grind arith
 
 pub setting_ranged : (addr : ℕ) (grb : Components) (known : List MapColour) → IsAddress addr → HasSixteenBitParts grb → All MapColourInRange known →
     All MapColourInRange (with_known_colour addr grb known)

@@ -93,7 +93,7 @@ IsMade (Code.DefGlyph code) = IsCode code
 IsMade (Code.Step step) = StepMade step
 IsMade _ = ⊤
 
--- the code puts an entry of its own, which is neither a character nor a move of text
+-- the code puts an entry of its own, which isn't a character
 abbrev pub PutsOwnEntry : Code → Type 0
 PutsOwnEntry Code.Clear = ⊤
 PutsOwnEntry Code.Bell = ⊤

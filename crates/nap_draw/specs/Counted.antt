@@ -1,4 +1,4 @@
-use Rattle.std.specs.Prelude.{Bool, List, None, Ok, Option, Result, Some, length, true, ℕ, ◌≡◌}
+use Rattle.std.specs.Prelude.{List, None, Ok, Option, Result, Some, length, true, ℕ, ◌≡◌}
 use Rattle.nap_draw.specs.Names.{Coordinates, Course, Ghosts, displaced_point, multi_of, operand_words}
 use Rattle.nap_draw.specs.declared.fault.DrawFault.{DrawFault}
 use Rattle.nap_draw.specs.declared.work.Work.{Work}

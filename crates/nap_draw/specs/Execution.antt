@@ -1,12 +1,13 @@
 use Rattle.std.specs.Prelude.{Bool, Err, IsErrOf, List, None, Ok, Option, Result, Some, [], false, min, option_map, true, vec_capacity, vec_len, ℕ, ◌++◌, ◌+◌, ◌<◌, ◌∷◌, ◌≡◌, ◌≤◌, ◌⊎◌}
-use Rattle.nap_draw.specs.Names.{Coordinates, Definition, Displacement, Drawing, Entry, EqualCurrent, Ghosts, Ink, MayCome, Pen, ShapeKind, SinkFault, State, Vec, WellMade, attributes, corner, ink_of, outline, shape_on, sink_model_of, walk, with_pen}
+use Rattle.nap_draw.specs.Names.{Coordinates, Definition, Displacement, Drawing, Entry, EqualCurrent, Ghosts, Ink, MayCome, Pen, ShapeKind, SinkFault, State, Vec, WellMade, attributes, corner, ink_of, outline, point_entry, shape_on, sink_model_of, walk, with_pen}
 use Rattle.nap_list.specs.Putting as puts
 use Rattle.nap_draw.specs.declared.fault.DrawFault.{DrawFault}
 use Rattle.nap_draw.specs.declared.figures.Span.{Span}
 use Rattle.nap_draw.specs.declared.figures.Figure.{Figure}
 use Rattle.nap_draw.specs.declared.figures.ShapeStart.{ShapeStart}
+use Rattle.nap_draw.specs.declared.points.Trail.{Trail}
 use Rattle.nap_draw.specs.declared.work.Work.{Work}
-use Rattle.nap_draw.specs.Rule.{RuleResult, entry_result, shape_from_pen, shape_from_point}
+use Rattle.nap_draw.specs.Rule.{RuleResult, entries_result, entry_result, rule_result, shape_from_pen, shape_from_point, span_line_entry}
 use Rattle.nap_draw.specs.Geometry.{polyline_spans, arc_points, poly_points}
 use Rattle.nap_draw.specs.Draws.{Cause, stream, memory, device, DrawsBy, draw_cause}
 use Rattle.nap_draw.specs.Acts.{WantsBy, WantsFor, GivesSome}
@@ -71,6 +72,16 @@ start_size ShapeStart.AtOperand k n = min k n
 abbrev pub shape_result : Work → ShapeKind → Bool → Coordinates → Option (List Coordinates) → Result RuleResult DrawFault
 shape_result work kind filled p qs = entry_result work (shape_on kind filled) (option_map (λ qs. outline kind (p ∷ qs)) qs)
 
+-- the result of points, or of lines through them from this point, or Outside
+abbrev pub trail_result : Trail → Work → Coordinates → Option (List Coordinates) → Result RuleResult DrawFault
+trail_result Trail.Points work p qs = entries_result work point_entry qs
+trail_result Trail.Lines work p qs = entries_result work span_line_entry (option_map (polyline_spans p) qs)
+
+-- the last entry of points, or of lines, the last of them from one point to the other
+abbrev pub trail_entry : Trail → Drawing → Coordinates → Coordinates → Entry
+trail_entry Trail.Points d p q = point_entry d q
+trail_entry Trail.Lines d p q = Entry.Line p q (ink_of d)
+
 -- the state after an entry that moves the pen and isn't a character
 abbrev pub with_pen_moved : State → Pen → State
 with_pen_moved s pen = record s { drawing = with_pen pen s.drawing; last = None }
@@ -101,11 +112,6 @@ span_ends (s ∷ ss) = s.from ∷ s.to ∷ span_ends ss
 unfoldable pub rect_spans : Coordinates → List Coordinates → List Span
 rect_spans p [] = []
 rect_spans p (q ∷ qs) = record { from = p; to = q } ∷ rect_spans (corner p q) qs
-
--- the spans of a figure that continues from where it leaves the pen
-abbrev pub chain_spans : Figure → Coordinates → List Coordinates → List Span
-chain_spans Figure.Line p qs = polyline_spans p qs
-chain_spans (Figure.Rect filled) p qs = rect_spans p qs
 
 -- the list was put: the sink took all of it, or a prefix up to an entry that it didn't take
 abbrev pub PutsList : {S A : Type 0} → Ghosts S → List Entry → S → S → Result A SinkFault → Type 0
@@ -141,7 +147,7 @@ RuleRefuses by fault device = ⊥
 
 -- an opcode without entries changed the work by the result of its rule
 abbrev pub SetsWork : Result RuleResult DrawFault → Work → Work → Result (Unit {0}) DrawFault → Type 0
-SetsWork by w v (Ok _) = by ≡ Ok (record { entries = []; work = v; clears = false })
+SetsWork by w v (Ok _) = by ≡ Ok (rule_result v [])
 SetsWork by w v (Err fault) = (v ≡ w) × RuleRefuses by fault (draw_cause fault)
 
 -- an entry with the current attributes of this state, which fits every state that agrees with it

@@ -1,19 +1,16 @@
 //! The rule of each character and control (PROFILE.md, Characters and controls).
 ghost use Rattle.std.specs.Prelude.{All, IfErr, IsErrOf, MatchResult, Ok, OnOk, [], false, true, ◌++◌, ◌∷◌, ◌≡◌};
-ghost use Rattle.nap_draw.specs.Names.{IsCode, IsTextByte, Put, StatesAgree, WellMade, sink_model_of};
+ghost use Rattle.nap_draw.specs.Names.{IsCode, IsTextByte, Put, StatesAgree, WellMade, last_char_of_text, sink_model_of};
 ghost use Rattle.nap_draw.specs.Acts.{Acts, GivesSome, WantsBy};
 ghost use Rattle.nap_draw.specs.Codes.{code_rule, IsMade, PutsOwnEntry, drawn_text, definition_ended, definition_result};
 ghost use Rattle.nap_draw.specs.Execution.{clears_nothing, AppliesControl, PutsList, definition_start};
 ghost use Rattle.nap_draw.specs.Rule.{rule_result};
 ghost use Rattle.nap_codes.specs.declared.code.Code.TheVariants as codes;
 
-use crate::fault::DrawFault;
+use crate::fault::{DrawFault, Drawn};
 use crate::work::Work;
 use nap_codes::{CharSet, Code, TextStep};
-use nap_list::{
-    Batch, BatchFault, CharSize, Definition, Entry, LastChar, Pen, Sink, SinkFault,
-    last_char_of_text,
-};
+use nap_list::{Batch, BatchFault, CharSize, Definition, Entry, LastChar, Pen, Sink, SinkFault};
 use nap_values::Word;
 
 impl Work {
@@ -43,8 +40,7 @@ impl Work {
         ensures kept { IfErr result (λ fault. S.failed sink.old ≡ false → S.failed sink.new ≡ true → fault ≡ DrawFault.Sink) }
         ensures clear { OnOk result (S.failed sink.old ≡ false → S.failed sink.new ≡ false) }
     {
-        let pen = self.pen();
-        self.put_and_set_pen(Entry::Bell, pen, sink)
+        self.put_and_set_pen(Entry::Bell, self.state.drawing.pen, sink)
     }
 
     /// Executes a character or a control as `control` does, and advances this work. On an error the work is unchanged.
@@ -64,11 +60,7 @@ impl Work {
 
     /// Executes a code by the rule of its row.
     #[inline(always)]
-    pub(crate) fn apply_control<S: Sink>(
-        &mut self,
-        code: &Code,
-        sink: &mut S,
-    ) -> Result<(), DrawFault>
+    fn apply_control<S: Sink>(&mut self, code: &Code, sink: &mut S) -> Drawn
         requires agrees { StatesAgree self.old.state (S.state sink.old) }
         requires made { IsMade code.now }
         ensures { AppliesControl S.Sink (code_rule self.old code.now) self.old self.new sink.old sink.new result }
@@ -96,7 +88,7 @@ impl Work {
 
     /// Puts a format effector.
     #[inline(never)]
-    fn move_text<S: Sink>(&mut self, step: TextStep, sink: &mut S) -> Result<(), DrawFault>
+    fn move_text<S: Sink>(&mut self, step: TextStep, sink: &mut S) -> Drawn
         requires agrees { StatesAgree self.old.state (S.state sink.old) }
         requires made { IsMade (codes.Step step) }
         ensures { AppliesControl S.Sink (code_rule self.old (codes.Step step)) self.old self.new sink.old sink.new result }
@@ -107,14 +99,14 @@ impl Work {
 
     /// Executes a control that puts an entry of its own.
     #[inline(never)]
-    fn put_control<S: Sink>(&mut self, code: &Code, sink: &mut S) -> Result<(), DrawFault>
+    fn put_control<S: Sink>(&mut self, code: &Code, sink: &mut S) -> Drawn
         requires agrees { StatesAgree self.old.state (S.state sink.old) }
         requires made { IsMade code.now }
         requires own { PutsOwnEntry code.now }
         ensures { AppliesControl S.Sink (code_rule self.old code.now) self.old self.new sink.old sink.new result }
     {
-        let pen = self.pen();
-        let colour = self.colour();
+        let pen = self.state.drawing.pen;
+        let colour = self.state.drawing.colour;
         match *code {
             Code::Clear => self.put_and_set_pen(Entry::Clear { pen }, Pen::After, sink),
             Code::BlinkMark(on) => self.put_and_set_pen(Entry::BlinkMark { on, colour }, pen, sink),
@@ -150,18 +142,13 @@ impl Work {
             return Ok(());
         };
         self.state.drawing.pen = Pen::After;
-        self.state.last = last_char_of_text(set, *code);
+        self.state.last = last_char(set, *code);
         Ok(())
     }
 
     /// Puts a character. Afterwards the pen is at a position that only a terminal knows.
     #[inline(never)]
-    pub(crate) fn character<S: Sink>(
-        &mut self,
-        set: CharSet,
-        code: u8,
-        sink: &mut S,
-    ) -> Result<(), DrawFault>
+    fn character<S: Sink>(&mut self, set: CharSet, code: u8, sink: &mut S) -> Drawn
         requires agrees { StatesAgree self.old.state (S.state sink.old) }
         requires made { IsCode code }
         ensures { AppliesControl S.Sink (code_rule self.old (codes.Char set code)) self.old self.new sink.old sink.new result }
@@ -175,7 +162,7 @@ impl Work {
 
     /// REPEAT: puts the last character again, `count` times.
     #[inline(never)]
-    pub(crate) fn repeat<S: Sink>(&mut self, count: Word, sink: &mut S) -> Result<(), DrawFault>
+    fn repeat<S: Sink>(&mut self, count: Word, sink: &mut S) -> Drawn
         requires { StatesAgree self.old.state (S.state sink.old) }
         ensures { AppliesControl S.Sink (code_rule self.old (codes.Repeat count)) self.old self.new sink.old sink.new result }
     {
@@ -195,7 +182,7 @@ impl Work {
 
     /// REPEAT TO EOL: puts the repetition of the last character to the end of the line.
     #[inline(never)]
-    pub(crate) fn repeat_to_end<S: Sink>(&mut self, sink: &mut S) -> Result<(), DrawFault>
+    fn repeat_to_end<S: Sink>(&mut self, sink: &mut S) -> Drawn
         requires { StatesAgree self.old.state (S.state sink.old) }
         ensures { AppliesControl S.Sink (code_rule self.old codes.ToEol) self.old self.new sink.old sink.new result }
     {
@@ -208,7 +195,7 @@ impl Work {
 
     /// Executes END: ends the open definition, if there is one.
     #[inline(never)]
-    pub(crate) fn end_definition<S: Sink>(&mut self, sink: &mut S) -> Result<(), DrawFault>
+    fn end_definition<S: Sink>(&mut self, sink: &mut S) -> Drawn
         requires { StatesAgree self.old.state (S.state sink.old) }
         ensures { AppliesControl S.Sink (Ok (definition_ended self.old)) self.old self.new sink.old sink.new result }
     {
@@ -222,11 +209,7 @@ impl Work {
 
     /// Executes DEF DRCS or DEF TEXTURE: ends the open definition, if there is one, and opens another.
     #[inline(never)]
-    pub(crate) fn begin_definition<S: Sink>(
-        &mut self,
-        what: Definition,
-        sink: &mut S,
-    ) -> Result<(), DrawFault>
+    fn begin_definition<S: Sink>(&mut self, what: Definition, sink: &mut S) -> Drawn
         requires agrees { StatesAgree self.old.state (S.state sink.old) }
         requires made { WellMade (definition_start what) }
         ensures { AppliesControl S.Sink (definition_result self.old (definition_start what)) self.old self.new sink.old sink.new result }
@@ -261,6 +244,18 @@ impl Work {
             self.domain = self.saved;
         }
     }
+}
+
+/// Returns the character that a byte of a text leaves as the last one, or `None` for a format effector.
+#[inline(always)]
+fn last_char(set: CharSet, code: u8) -> Option<LastChar>
+    requires { IsTextByte code }
+    ensures { result ≡ last_char_of_text set code }
+{
+    if code < 0x20 {
+        return None;
+    }
+    Some(LastChar { set, code })
 }
 
 /// The greatest number of copies that REPEAT makes.

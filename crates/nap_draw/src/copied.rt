@@ -1,4 +1,4 @@
-//! Execution of a character or a control on a copy of the work.
+//! Execution of an opcode, a character or a control on a copy of the work.
 ghost use Rattle.std.specs.Prelude.{IfOk, IsErrOf, OnOk, false, length, take, true, ◌≡◌, ◌≤◌};
 ghost use Rattle.nap_draw.specs.Names.{IsCode, StatesAgree, operand_words};
 ghost use Rattle.nap_draw.specs.Acts.{WantsBy};

@@ -1,43 +1,45 @@
 //! Points that a sink only counts, so that none has to be made (PROFILE.md, Opcodes).
-ghost use Rattle.std.specs.Prelude.{IfSome, IsTrue, Ok, Some, drop, false, length, take, true, ◌/◌, ◌<◌, ◌≡◌, ◌≤◌};
-ghost use Rattle.nap_draw.specs.Names.{StatesAgree, displaced_point, multi_of, operand_words, point_entry};
+ghost use Rattle.std.specs.Prelude.{IfSome, Ok, Some, drop, false, length, take, true, ◌/◌, ◌<◌, ◌≡◌, ◌≤◌};
+ghost use Rattle.nap_draw.specs.Names.{StatesAgree, operand_words, point_entry};
 ghost use Rattle.nap_draw.specs.Operands.{moves};
-ghost use Rattle.std.specs.Option.{option_map};
-ghost use Rattle.nap_draw.specs.Geometry.{points_at, points_reached, polyline_spans};
-ghost use Rattle.nap_draw.specs.Rule.{entries_result, rule_result, span_line_entry};
+ghost use Rattle.nap_draw.specs.Execution.{trail_result};
+ghost use Rattle.nap_draw.specs.Geometry.{points_at, points_reached};
+ghost use Rattle.nap_draw.specs.Rule.{entries_result, rule_result};
 ghost use Rattle.nap_draw.specs.Codes.{repeated_chars};
 ghost use Rattle.nap_draw.specs.Counted.{ActsFully, Arrives, Displaces};
 
 use crate::operands::operand_count;
+use crate::points::Trail;
 use crate::work::Work;
 use nap_list::{Entry, LastChar, Pen, Sink};
 use nap_values::{CoarseWalk, Domain, Point, begins_inside, multi_bytes};
 
 impl Work {
-    /// Draws a point at each point that the displacements lead to, one after another, if the sink needs only their
+    /// Draws a point at each point that the displacements lead to, or lines through them, if the sink needs only their
     /// number and all are on the unit screen. Else returns false, and changes nothing.
     #[inline(always)]
-    pub(crate) fn count_points<S: Sink>(&mut self, from: Point, run: &[u8], sink: &mut S) -> bool
+    pub(crate) fn count_steps<S: Sink>(
+        &mut self,
+        trail: Trail,
+        from: Point,
+        run: &[u8],
+        sink: &mut S,
+    ) -> bool
         requires { StatesAgree self.old.state (S.state sink.old) }
-        ensures counted { result ≡ true → ActsFully S.Sink (entries_result self.old point_entry (points_reached from (moves self.old.domain.multi (operand_words run.now)))) self.old self.new sink.old sink.new }
+        ensures counted { result ≡ true → ActsFully S.Sink (trail_result trail self.old from (points_reached from (moves self.old.domain.multi (operand_words run.now)))) self.old self.new sink.old sink.new }
         ensures kept { result ≡ false → (self.new ≡ self.old) × (sink.new ≡ sink.old) }
     {
-        if !sink.counts_only() {
+        if self.domain.multi() != 3 || !sink.counts_only() {
             return false;
         }
-        let Some(at) = end_of_steps(from, self.domain, run) else {
+        let Some(to) = end_of_steps(from, run) else {
             return false;
         };
-        let drawing = &self.state.drawing;
-        let last = Entry::Point {
-            at,
-            pel: drawing.pel,
-            colour: drawing.colour,
-        };
+        let last = trail.last_entry(&self.state.drawing, from, to);
         if !sink.put_alike(run.len() / 3, &last) {
             return false;
         }
-        self.move_pen_to(Some(at));
+        self.move_pen_to(Some(to));
         true
     }
 
@@ -55,12 +57,7 @@ impl Work {
         let Some(at) = last_of_points(self.domain, run) else {
             return false;
         };
-        let drawing = &self.state.drawing;
-        let last = Entry::Point {
-            at,
-            pel: drawing.pel,
-            colour: drawing.colour,
-        };
+        let last = Trail::Points.last_entry(&self.state.drawing, at, at);
         if !sink.put_alike(operand_count(self.domain, run), &last) {
             return false;
         }
@@ -98,32 +95,6 @@ impl Work {
         self.state.drawing.pen = Pen::After;
         true
     }
-
-    /// Draws lines through the points that the displacements lead to, one after another, if the sink needs only their
-    /// number and all are on the unit screen. Else returns false, and changes nothing.
-    #[inline(always)]
-    pub(crate) fn count_lines<S: Sink>(&mut self, from: Point, run: &[u8], sink: &mut S) -> bool
-        requires { StatesAgree self.old.state (S.state sink.old) }
-        ensures counted { result ≡ true → ActsFully S.Sink (entries_result self.old span_line_entry (option_map (polyline_spans from) (points_reached from (moves self.old.domain.multi (operand_words run.now))))) self.old self.new sink.old sink.new }
-        ensures kept { result ≡ false → (self.new ≡ self.old) × (sink.new ≡ sink.old) }
-    {
-        if !sink.counts_only() {
-            return false;
-        }
-        let Some(to) = end_of_steps(from, self.domain, run) else {
-            return false;
-        };
-        let last = Entry::Line {
-            from,
-            to,
-            ink: self.state.drawing.ink(),
-        };
-        if !sink.put_alike(run.len() / 3, &last) {
-            return false;
-        }
-        self.move_pen_to(Some(to));
-        true
-    }
 }
 
 /// Returns the last of the points that the operands spell, if there are any and all are on the unit screen.
@@ -144,20 +115,10 @@ fn last_of_points(domain: Domain, run: &[u8]) -> Option<Point>
     multi_bytes(last).point()
 }
 
-/// Returns the last point that the displacements lead to, one after another, if each has three words and all points are
-/// on the unit screen.
-#[inline(always)]
-fn end_of_steps(from: Point, domain: Domain, run: &[u8]) -> Option<Point>
-    ensures { IfSome result (λ at. Arrives (points_reached from (moves domain.multi (operand_words run.now))) (length run.now / 3) at) }
-{
-    if domain.multi() != 3 {
-        return None;
-    }
-    end_of_steps_of_three(from, run)
-}
-
+/// Returns the last point that displacements of three words lead to, one after another, if all points are on the unit
+/// screen.
 #[inline(never)]
-fn end_of_steps_of_three(from: Point, run: &[u8]) -> Option<Point>
+fn end_of_steps(from: Point, run: &[u8]) -> Option<Point>
     ensures { IfSome result (λ at. Arrives (points_reached from (moves 3 (operand_words run.now))) (length run.now / 3) at) }
 {
     let mut walk = CoarseWalk::from_point(from);

@@ -8,8 +8,7 @@ use std::alloc::AllocError;
 use std::fmt;
 use thiserror::Error;
 
-/// Why a code is refused. If several apply to an opcode, the first in this order is given: `ThreeD`, `Missing`,
-/// `ManyColours`, `NoAddress`, `ManyPoints`, `PenUnknown`, `Outside` (PROFILE.md, Refusals).
+/// Why a code is refused. If several apply to an opcode, the first in the order here is given (PROFILE.md, Refusals).
 #[derive(Clone, Copy, PartialEq, Eq, Debug, Drop, Error)]
 pub enum DrawFault {
     /// DOMAIN in three dimensions.
@@ -18,14 +17,14 @@ pub enum DrawFault {
     Missing,
     /// SET COLOR with more than one operand.
     ManyColours,
-    /// A point isn't on the unit screen.
-    Outside,
-    /// An opcode starts at the pen, whose position isn't known after text, RESET, CS or FIELD.
-    PenUnknown,
     /// SET COLOR without an address to set, since a reset selected the colour.
     NoAddress,
     /// More displacements than an arc or polygon may have.
     ManyPoints,
+    /// An opcode starts at the pen, whose position isn't known after text, RESET, CS or FIELD.
+    PenUnknown,
+    /// A point isn't on the unit screen.
+    Outside,
     /// REPEAT or REPEAT TO EOL where the last entry isn't a character.
     NothingToRepeat,
     /// Memory ran out.
@@ -33,6 +32,9 @@ pub enum DrawFault {
     /// The sink's device failed.
     Sink,
 }
+
+/// The answer of a code, or why it is refused.
+pub(crate) type Drawn = Result<(), DrawFault>;
 
 impl fmt::Display for DrawFault {
     fn fmt<W: fmt::Write>(&self, f: &mut fmt::Formatter<W>) -> fmt::Result {

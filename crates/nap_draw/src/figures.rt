@@ -1,16 +1,17 @@
-//! Spans, and the figures drawn along them.
+//! The shapes that opcodes draw: figures along spans, arcs, polygons and fields (PROFILE.md, Opcodes).
 ghost use Rattle.std.specs.Prelude.{Bool, Err, IfErr, IfOk, length, nat_lt, option_map, vec_capacity, ◌<◌, ◌≡◌, ◌≤◌};
 ghost use Rattle.nap_draw.specs.Names.{ShapeKind, StatesAgree, operand_words, shape_on, steps_limit};
 ghost use Rattle.nap_draw.specs.Geometry.{span_by, points_reached};
 ghost use Rattle.nap_draw.specs.Execution.{figure_entry, figure_end, ActsByRule, clears_nothing, shape_from, displaced_points, shape_result, start_size};
 ghost use Rattle.nap_draw.specs.Operands.{moves};
-ghost use Rattle.nap_draw.specs.Rule.{moves_of};
+ghost use Rattle.nap_draw.specs.Rule.{moves_of, area_part, area_of, rule};
 ghost use Rattle.nap_draw.specs.Draws.{stream, draw_cause};
 
-use crate::fault::DrawFault;
+use crate::fault::{DrawFault, Drawn};
 use crate::scratch::steps_into;
 use crate::work::Work;
-use nap_list::{Drawing, Entry, Pen, SHAPE_POINTS, Shape, ShapeKind, Sink, corner};
+use nap_codes::Opcode;
+use nap_list::{Area, Drawing, Entry, Pen, SHAPE_POINTS, Shape, ShapeKind, Sink, corner};
 use nap_values::{Domain, Move, Point, multi_bytes};
 use std::alloc::Global;
 
@@ -48,22 +49,15 @@ impl Figure {
         }
     }
 
-    /// Returns the position of the pen after the figure.
-    pub(crate) fn after(self, from: Point, to: Point) -> Point
-        ensures { result ≡ figure_end self (record { from = from; to = to }) }
-    {
-        match self {
-            Figure::Line => to,
-            Figure::Rect(_) => corner(from, to),
-        }
-    }
-
     /// Returns the position of the pen after the figure on the last span, if there is one.
     pub(crate) fn end(self, last: Option<Span>) -> Option<Point>
         ensures { result ≡ option_map (figure_end self) last }
     {
         let Span { from, to } = last?;
-        Some(self.after(from, to))
+        match self {
+            Figure::Line => Some(to),
+            Figure::Rect(_) => Some(corner(from, to)),
+        }
     }
 }
 
@@ -125,16 +119,11 @@ fn shape_start<'a>(
         return Err(DrawFault::ManyPoints);
     }
     match start {
-        ShapeStart::AtPen => {
-            let from = work.pen_point()?;
-            Ok((from, steps))
-        }
-        ShapeStart::AtOperand => {
-            let Some(from) = multi_bytes(first).point() else {
-                return Err(DrawFault::Outside);
-            };
-            Ok((from, steps))
-        }
+        ShapeStart::AtPen => Ok((work.pen_point()?, steps)),
+        ShapeStart::AtOperand => match multi_bytes(first).point() {
+            Some(from) => Ok((from, steps)),
+            None => Err(DrawFault::Outside),
+        },
     }
 }
 
@@ -149,7 +138,7 @@ impl Work {
         filled: bool,
         run: &[u8],
         sink: &mut S,
-    ) -> Result<(), DrawFault>
+    ) -> Drawn
         requires { StatesAgree self.old.state (S.state sink.old) }
         ensures acts { ActsByRule S.Sink clears_nothing (vec_capacity scratch.old < length run.now) (shape_from start self.old (operand_words run.now) (shape_on kind filled) (displaced_points kind)) self.old self.new sink.old sink.new result }
         ensures space { vec_capacity scratch.old ≤ vec_capacity scratch.new }
@@ -172,5 +161,39 @@ impl Work {
         self.state.drawing.pen = Pen::At(end);
         self.state.last = None;
         Ok(())
+    }
+
+    pub(crate) fn field<S: Sink>(&mut self, run: &[u8], sink: &mut S) -> Drawn
+        requires { StatesAgree self.old.state (S.state sink.old) }
+        ensures { ActsByRule S.Sink clears_nothing ⊥ (rule self.old Opcode.Field (operand_words run.now)) self.old self.new sink.old sink.new result }
+    {
+        let area = self.area_of(run)?;
+        let pen = self.state.drawing.pen;
+        self.put_and_set_pen(Entry::Field { area, pen }, Pen::After, sink)
+    }
+
+    /// Returns the field that the operands give: the whole unit screen, or a part from the pen or from a point.
+    fn area_of(&self, run: &[u8]) -> Result<Area, DrawFault>
+        ensures { result ≡ area_of self.now (moves_of self.now (operand_words run.now)) }
+    {
+        let size = self.domain.multi();
+        let mut operands = run.chunks(usize::from(size));
+        let Some(first) = operands.next() else {
+            return Ok(Area::Whole);
+        };
+        let first = multi_bytes(first);
+        match operands.next() {
+            None => area_part(Some(self.pen_point()?), first),
+            Some(second) => area_part(first.point(), multi_bytes(second)),
+        }
+    }
+}
+
+fn area_part(from: Option<Point>, step: Move) -> Result<Area, DrawFault>
+    ensures { result ≡ area_part from step }
+{
+    match span_by(from, step) {
+        Some(Span { from, to }) => Ok(Area::Part { from, to }),
+        None => Err(DrawFault::Outside),
     }
 }

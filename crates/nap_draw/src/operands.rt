@@ -6,12 +6,12 @@ ghost use Rattle.nap_draw.specs.Operands.{moves};
 ghost use Rattle.nap_draw.specs.Rule.{RuleResult, moves_of, with_operands, with_pairs, from_pen};
 ghost use Rattle.nap_draw.specs.Draws.{stream, draw_cause};
 
-use crate::fault::DrawFault;
+use crate::fault::{DrawFault, Drawn};
 use crate::work::Work;
 use nap_values::{Domain, Move, Point, Word, multi_bytes};
 
 /// Refuses a run without operands as Missing.
-pub(crate) fn require_operand(work: &Work, run: &[u8]) -> Result<(), DrawFault>
+pub(crate) fn require_operand(work: &Work, run: &[u8]) -> Drawn
     ensures ok { IfOk result (λ _. (f : List Displacement → Result RuleResult DrawFault) → with_operands work.now (operand_words run.now) f ≡ f (moves_of work.now (operand_words run.now))) }
     ensures err { IfErr result (λ fault. (draw_cause fault ≡ stream) × ((f : List Displacement → Result RuleResult DrawFault) → with_operands work.now (operand_words run.now) f ≡ Err fault)) }
 {
@@ -22,7 +22,7 @@ pub(crate) fn require_operand(work: &Work, run: &[u8]) -> Result<(), DrawFault>
 }
 
 /// Refuses a run without pairs of operands, or with half a pair, as Missing.
-pub(crate) fn require_pairs(work: &Work, run: &[u8]) -> Result<(), DrawFault>
+pub(crate) fn require_pairs(work: &Work, run: &[u8]) -> Drawn
     ensures ok { IfOk result (λ _. (f : List Displacement → Result RuleResult DrawFault) → with_pairs work.now (operand_words run.now) f ≡ f (moves_of work.now (operand_words run.now))) }
     ensures even { OnOk result (length (moves_of work.now (operand_words run.now)) % 2 ≡ 0) }
     ensures err { IfErr result (λ fault. (draw_cause fault ≡ stream) × ((f : List Displacement → Result RuleResult DrawFault) → with_pairs work.now (operand_words run.now) f ≡ Err fault)) }
@@ -39,7 +39,9 @@ pub(crate) fn require_start(work: &Work, run: &[u8]) -> Result<Point, DrawFault>
     ensures ok { IfOk result (λ p. (f : Coordinates → List Displacement → Result RuleResult DrawFault) → from_pen work.now (operand_words run.now) f ≡ f p (moves_of work.now (operand_words run.now))) }
     ensures err { IfErr result (λ fault. (draw_cause fault ≡ stream) × ((f : Coordinates → List Displacement → Result RuleResult DrawFault) → from_pen work.now (operand_words run.now) f ≡ Err fault)) }
 {
-    require_operand(work, run)?;
+    if run.is_empty() {
+        return Err(DrawFault::Missing);
+    }
     work.pen_point()
 }
 

@@ -7,7 +7,7 @@ ghost use Rattle.nap_draw.specs.Operands.{moves};
 ghost use Rattle.nap_draw.specs.Geometry.{points_at, relative_spans, rect_chain_spans, points_reached};
 ghost use Rattle.nap_draw.specs.Execution.{Fills, Filling, LacksPlaces, pair_spans, rect_spans};
 
-use crate::fault::DrawFault;
+use crate::fault::{DrawFault, Drawn};
 use crate::figures::span_by;
 use nap_list::corner;
 use nap_values::{Domain, MovingPoint, Point, multi_bytes, multi_first_three};
@@ -64,7 +64,7 @@ fn clear_if_fits(scratch: &mut Vec<Point>, places: usize) -> bool
 }
 
 /// Returns lack of memory as an error if `full` is true: a point had no memory.
-fn memory_fault_if(full: bool) -> Result<(), DrawFault>
+fn memory_fault_if(full: bool) -> Drawn
     ensures ok { IfOk result (λ _. full ≡ false) }
     ensures err { IfErr result (λ fault. (full ≡ true) × (fault ≡ Memory)) }
 {
@@ -74,12 +74,11 @@ fn memory_fault_if(full: bool) -> Result<(), DrawFault>
     Ok(())
 }
 
+/// The bytes that a decoding leaves, or why there are none.
+type Left<'a> = Result<&'a [u8], DrawFault>;
+
 /// Decodes each operand as a point.
-pub(crate) fn points_into(
-    scratch: &mut Vec<Point>,
-    domain: Domain,
-    run: &[u8],
-) -> Result<(), DrawFault>
+pub(crate) fn points_into(scratch: &mut Vec<Point>, domain: Domain, run: &[u8]) -> Drawn
     ensures fills { Fills (points_at (moves domain.multi (operand_words run.now))) scratch.new.items result }
     ensures memory { LacksPlaces (length run.now) scratch.old scratch.new result }
 {
@@ -97,11 +96,7 @@ pub(crate) fn points_into(
 
 /// Decodes the complete operands of three words, the most common length, if the scratch list has memory for all points.
 /// Reads eight bytes at once as long as there are as many. Returns the bytes left.
-fn fill_whole_points<'a>(
-    scratch: &mut Vec<Point>,
-    size: u8,
-    run: &'a [u8],
-) -> Result<&'a [u8], DrawFault>
+fn fill_whole_points<'a>(scratch: &mut Vec<Point>, size: u8, run: &'a [u8]) -> Left<'a>
     requires { scratch.old.items ≡ [] }
     ensures ok { IfOk result (λ rest. Filling (points_at (moves size (operand_words run.now))) (points_at (moves size (operand_words rest.now))) false (λ prefix. scratch.new.items ≡ prefix)) }
     ensures err { IfErr result (λ fault. (fault ≡ Outside) × (points_at (moves size (operand_words run.now)) ≡ None)) }
@@ -111,36 +106,25 @@ fn fill_whole_points<'a>(
     if size != 3 || run.len() / 3 > scratch.capacity() {
         return Ok(run);
     }
-    fill_points_of_three(scratch, run)
-}
-
-fn fill_points_of_three<'a>(scratch: &mut Vec<Point>, run: &'a [u8]) -> Result<&'a [u8], DrawFault>
-    requires empty { scratch.old.items ≡ [] }
-    requires places { length run.now / 3 ≤ vec_capacity scratch.old }
-    ensures ok { IfOk result (λ rest. Filling (points_at (moves 3 (operand_words run.now))) (points_at (moves 3 (operand_words rest.now))) false (λ prefix. scratch.new.items ≡ prefix)) }
-    ensures err { IfErr result (λ fault. (fault ≡ Outside) × (points_at (moves 3 (operand_words run.now)) ≡ None)) }
-    ensures space { vec_capacity scratch.new ≡ vec_capacity scratch.old }
-    ensures few { IfOk result (λ rest. vec_len scratch.new + length rest.now ≤ length run.now) }
-{
     let mut points = take_vector(scratch);
     let mut rest = run;
     while let Some((block, _)) = rest.split_first_chunk::<8>() {
-        let (_, others) = rest.split_at(3);
+        let (_, after) = rest.split_at(3);
         let Some(point) = multi_first_three(block).point() else {
             put_back(scratch, points);
             return Err(DrawFault::Outside);
         };
         points.push_reserved(point);
-        rest = others;
+        rest = after;
     }
     while rest.len() >= 3 {
-        let (operand, others) = rest.split_at(3);
+        let (operand, after) = rest.split_at(3);
         let Some(point) = multi_bytes(operand).point() else {
             put_back(scratch, points);
             return Err(DrawFault::Outside);
         };
         points.push_reserved(point);
-        rest = others;
+        rest = after;
     }
     put_back(scratch, points);
     Ok(rest)
@@ -152,7 +136,7 @@ pub(crate) fn corners_into(
     from: Point,
     domain: Domain,
     run: &[u8],
-) -> Result<(), DrawFault>
+) -> Drawn
     ensures fills { Fills (rect_chain_spans from (moves domain.multi (operand_words run.now))) (rect_spans from scratch.new.items) result }
     ensures memory { LacksPlaces (length run.now) scratch.old scratch.new result }
 {
@@ -170,11 +154,7 @@ pub(crate) fn corners_into(
 }
 
 /// Decodes pairs of operands: a point, and the point at a displacement from it.
-pub(crate) fn pairs_into(
-    scratch: &mut Vec<Point>,
-    domain: Domain,
-    run: &[u8],
-) -> Result<(), DrawFault>
+pub(crate) fn pairs_into(scratch: &mut Vec<Point>, domain: Domain, run: &[u8]) -> Drawn
     ensures fills { Fills (relative_spans (moves domain.multi (operand_words run.now))) (pair_spans scratch.new.items) result }
     ensures memory { LacksPlaces (length run.now) scratch.old scratch.new result }
 {
@@ -198,12 +178,7 @@ pub(crate) fn pairs_into(
 const LONG_RUN: usize = 128;
 
 /// Decodes the points reached from `from`, one displacement after another.
-pub(crate) fn steps_into(
-    scratch: &mut Vec<Point>,
-    from: Point,
-    domain: Domain,
-    run: &[u8],
-) -> Result<(), DrawFault>
+pub(crate) fn steps_into(scratch: &mut Vec<Point>, from: Point, domain: Domain, run: &[u8]) -> Drawn
     ensures fills { Fills (points_reached from (moves domain.multi (operand_words run.now))) scratch.new.items result }
     ensures memory { LacksPlaces (length run.now) scratch.old scratch.new result }
 {
@@ -211,14 +186,14 @@ pub(crate) fn steps_into(
         return fill_any_steps(scratch, from, domain, run);
     }
     if run.len() >= LONG_RUN {
-        return fill_long_run(scratch, from, domain, run);
+        return fill_by_four(scratch, from, domain, run);
     }
-    let mut at = from;
-    let rest = fill_steps_of_three(scratch, &mut at, run)?;
+    let mut walk = MovingPoint::from_point(from);
+    let rest = fill_steps_of_three(scratch, &mut walk, run)?;
     if rest.is_empty() {
         return Ok(());
     }
-    fill_more_steps(scratch, at, domain, rest, false)
+    fill_more_steps(scratch, walk, domain, rest, false)
 }
 
 /// Empties the scratch list, and returns whether it has memory for the points of complete operands of three words. It
@@ -233,149 +208,31 @@ fn has_places(scratch: &mut Vec<Point>, run: &[u8]) -> bool
     clear_if_fits(scratch, run.len()) || run.len() / 3 <= scratch.capacity()
 }
 
-/// Decodes the points reached by operands of any length. The scratch list may have to grow.
+/// Decodes the points reached by operands of any length and number. The scratch list may have to grow.
 #[inline(never)]
-fn fill_any_steps(
-    scratch: &mut Vec<Point>,
-    from: Point,
-    domain: Domain,
-    run: &[u8],
-) -> Result<(), DrawFault>
+fn fill_any_steps(scratch: &mut Vec<Point>, from: Point, domain: Domain, run: &[u8]) -> Drawn
     ensures fills { Fills (points_reached from (moves domain.multi (operand_words run.now))) scratch.new.items result }
     ensures memory { LacksPlaces (length run.now) scratch.old scratch.new result }
 {
-    let mut at = from;
     let full = reset_scratch(scratch, run.len(), domain);
-    let rest = fill_whole_steps(scratch, &mut at, domain.multi(), run)?;
-    fill_more_steps(scratch, at, domain, rest, full)
+    if domain.multi() != 3 || run.len() / 3 > scratch.capacity() {
+        return fill_more_steps(scratch, MovingPoint::from_point(from), domain, run, full);
+    }
+    fill_by_four(scratch, from, domain, run)
 }
 
-/// Decodes the points reached from `from`, after those in the scratch list. `lacks` says that memory ran out for one
-/// before.
+/// Decodes the points reached by operands of three words, by four up to the last five or fewer, if the scratch list has
+/// memory for all.
 #[inline(never)]
-fn fill_more_steps(
-    scratch: &mut Vec<Point>,
-    from: Point,
-    domain: Domain,
-    run: &[u8],
-    lacks: bool,
-) -> Result<(), DrawFault>
-    ensures fills { (all : Option (List Coordinates)) → Filling all (points_reached from (moves domain.multi (operand_words run.now))) lacks (λ prefix. scratch.old.items ≡ prefix) → Fills all scratch.new.items result }
-    ensures space { vec_capacity scratch.old ≤ vec_capacity scratch.new }
-    ensures memory { IsErrOf result Memory → (lacks ≡ true) ⊎ (vec_capacity scratch.old < vec_len scratch.old + length run.now) }
-{
-    let mut at = from;
-    let mut full = lacks;
-    for operand in run.chunks(usize::from(domain.multi())) {
-        let Some(point) = at.by(multi_bytes(operand)) else {
-            return Err(DrawFault::Outside);
-        };
-        full |= scratch.push(point).is_err();
-        at = point;
-    }
-    memory_fault_if(full)
-}
-
-/// Decodes the points reached by complete operands of three words, if the scratch list has memory for all. Sets `at` to
-/// the last of them, and returns the bytes left.
-#[inline(always)]
-fn fill_whole_steps<'a>(
-    scratch: &mut Vec<Point>,
-    at: &mut Point,
-    size: u8,
-    run: &'a [u8],
-) -> Result<&'a [u8], DrawFault>
-    requires { scratch.old.items ≡ [] }
-    ensures ok { IfOk result (λ rest. Filling (points_reached at.old (moves size (operand_words run.now))) (points_reached at.new (moves size (operand_words rest.now))) false (λ prefix. scratch.new.items ≡ prefix)) }
-    ensures err { IfErr result (λ fault. (fault ≡ Outside) × (points_reached at.old (moves size (operand_words run.now)) ≡ None)) }
-    ensures space { vec_capacity scratch.new ≡ vec_capacity scratch.old }
-    ensures few { IfOk result (λ rest. vec_len scratch.new + length rest.now ≤ length run.now) }
-{
-    if size != 3 || run.len() / 3 > scratch.capacity() {
-        return Ok(run);
-    }
-    fill_steps_of_three(scratch, at, run)
-}
-
-#[inline(always)]
-fn fill_steps_of_three<'a>(
-    scratch: &mut Vec<Point>,
-    at: &mut Point,
-    run: &'a [u8],
-) -> Result<&'a [u8], DrawFault>
-    requires empty { scratch.old.items ≡ [] }
-    requires places { length run.now / 3 ≤ vec_capacity scratch.old }
-    ensures ok { IfOk result (λ rest. Filling (points_reached at.old (moves 3 (operand_words run.now))) (points_reached at.new (moves 3 (operand_words rest.now))) false (λ prefix. scratch.new.items ≡ prefix)) }
-    ensures err { IfErr result (λ fault. (fault ≡ Outside) × (points_reached at.old (moves 3 (operand_words run.now)) ≡ None)) }
-    ensures space { vec_capacity scratch.new ≡ vec_capacity scratch.old }
-    ensures few { IfOk result (λ rest. vec_len scratch.new + length rest.now ≤ length run.now) }
-{
-    let mut points = take_vector(scratch);
-    let mut walk = MovingPoint::from_point(*at);
-    let mut last = *at;
-    let mut rest = run;
-    while let Some((block, _)) = rest.split_first_chunk::<8>() {
-        let (_, others) = rest.split_at(3);
-        let Some(point) = walk.advance(multi_first_three(block)) else {
-            put_back(scratch, points);
-            return Err(DrawFault::Outside);
-        };
-        points.push_reserved(point);
-        last = point;
-        rest = others;
-    }
-    while rest.len() >= 3 {
-        let (operand, others) = rest.split_at(3);
-        let Some(point) = walk.advance(multi_bytes(operand)) else {
-            put_back(scratch, points);
-            return Err(DrawFault::Outside);
-        };
-        points.push_reserved(point);
-        last = point;
-        rest = others;
-    }
-    put_back(scratch, points);
-    *at = last;
-    Ok(rest)
-}
-
-/// Decodes the points reached by a long run of operands of three words, if the scratch list has memory for all.
-#[inline(never)]
-fn fill_long_run(
-    scratch: &mut Vec<Point>,
-    from: Point,
-    domain: Domain,
-    run: &[u8],
-) -> Result<(), DrawFault>
+fn fill_by_four(scratch: &mut Vec<Point>, from: Point, domain: Domain, run: &[u8]) -> Drawn
     requires three { domain.multi ≡ 3 }
     requires empty { scratch.old.items ≡ [] }
     requires places { length run.now / 3 ≤ vec_capacity scratch.old }
     ensures fills { Fills (points_reached from (moves domain.multi (operand_words run.now))) scratch.new.items result }
     ensures memory { LacksPlaces (length run.now) scratch.old scratch.new result }
 {
-    let mut at = from;
-    let rest = fill_fours(scratch, &mut at, run)?;
-    fill_more_steps(scratch, at, domain, rest, false)
-}
-
-/// Decodes the points reached by complete operands of three words, by four, as `fill_steps_of_three` does. Sets `at` to
-/// the last of them, and returns the bytes left.
-#[inline(always)]
-fn fill_fours<'a>(
-    scratch: &mut Vec<Point>,
-    at: &mut Point,
-    run: &'a [u8],
-) -> Result<&'a [u8], DrawFault>
-    requires empty { scratch.old.items ≡ [] }
-    requires places { length run.now / 3 ≤ vec_capacity scratch.old }
-    ensures ok { IfOk result (λ rest. Filling (points_reached at.old (moves 3 (operand_words run.now))) (points_reached at.new (moves 3 (operand_words rest.now))) false (λ prefix. scratch.new.items ≡ prefix)) }
-    ensures err { IfErr result (λ fault. (fault ≡ Outside) × (points_reached at.old (moves 3 (operand_words run.now)) ≡ None)) }
-    ensures space { vec_capacity scratch.new ≡ vec_capacity scratch.old }
-    ensures few { IfOk result (λ rest. vec_len scratch.new + length rest.now ≤ length run.now) }
-{
     let mut points = take_vector(scratch);
-    let mut walk = MovingPoint::from_point(*at);
-    let mut last = *at;
+    let mut walk = MovingPoint::from_point(from);
     let mut rest = run;
     while rest.len() >= 17 {
         let (_, others) = rest.split_at(12);
@@ -387,11 +244,72 @@ fn fill_fours<'a>(
         points.push_reserved(second);
         points.push_reserved(third);
         points.push_reserved(fourth);
-        last = fourth;
         rest = others;
     }
     put_back(scratch, points);
-    *at = last;
+    fill_more_steps(scratch, walk, domain, rest, false)
+}
+
+/// Decodes the points reached by a walk, after those in the scratch list. `lacks` says that memory ran out for one
+/// before.
+#[inline(never)]
+fn fill_more_steps(
+    scratch: &mut Vec<Point>,
+    mut walk: MovingPoint,
+    domain: Domain,
+    run: &[u8],
+    lacks: bool,
+) -> Drawn
+    ensures fills { (all : Option (List Coordinates)) → Filling all (points_reached walk (moves domain.multi (operand_words run.now))) lacks (λ prefix. scratch.old.items ≡ prefix) → Fills all scratch.new.items result }
+    ensures space { vec_capacity scratch.old ≤ vec_capacity scratch.new }
+    ensures memory { IsErrOf result Memory → (lacks ≡ true) ⊎ (vec_capacity scratch.old < vec_len scratch.old + length run.now) }
+{
+    let mut full = lacks;
+    for operand in run.chunks(usize::from(domain.multi())) {
+        let Some(point) = walk.advance(multi_bytes(operand)) else {
+            return Err(DrawFault::Outside);
+        };
+        full |= scratch.push(point).is_err();
+    }
+    memory_fault_if(full)
+}
+
+/// Decodes the points reached by complete operands of three words. Leaves the walk at the last of them, and returns the
+/// bytes left.
+#[inline(always)]
+fn fill_steps_of_three<'a>(
+    scratch: &mut Vec<Point>,
+    walk: &mut MovingPoint,
+    run: &'a [u8],
+) -> Left<'a>
+    requires empty { scratch.old.items ≡ [] }
+    requires places { length run.now / 3 ≤ vec_capacity scratch.old }
+    ensures ok { IfOk result (λ rest. Filling (points_reached walk.old (moves 3 (operand_words run.now))) (points_reached walk.new (moves 3 (operand_words rest.now))) false (λ prefix. scratch.new.items ≡ prefix)) }
+    ensures err { IfErr result (λ fault. (fault ≡ Outside) × (points_reached walk.old (moves 3 (operand_words run.now)) ≡ None)) }
+    ensures space { vec_capacity scratch.new ≡ vec_capacity scratch.old }
+    ensures few { IfOk result (λ rest. vec_len scratch.new + length rest.now ≤ length run.now) }
+{
+    let mut points = take_vector(scratch);
+    let mut rest = run;
+    while rest.len() >= 8 {
+        let (_, others) = rest.split_at(3);
+        let Some(point) = next_point(walk, rest) else {
+            put_back(scratch, points);
+            return Err(DrawFault::Outside);
+        };
+        points.push_reserved(point);
+        rest = others;
+    }
+    while rest.len() >= 3 {
+        let (operand, others) = rest.split_at(3);
+        let Some(point) = walk.advance(multi_bytes(operand)) else {
+            put_back(scratch, points);
+            return Err(DrawFault::Outside);
+        };
+        points.push_reserved(point);
+        rest = others;
+    }
+    put_back(scratch, points);
     Ok(rest)
 }
 
@@ -399,7 +317,7 @@ fn fill_fours<'a>(
 #[inline(always)]
 fn next_point(walk: &mut MovingPoint, bytes: &[u8]) -> Option<Point>
     requires { 8 ≤ length bytes.now }
-    ensures some { IfSome result (λ at. (walk.new ≡ at) × (points_reached walk.old (moves 3 (operand_words bytes.now)) ≡ option_map (λ points. at ∷ points) (points_reached at (moves 3 (operand_words (drop 3 bytes.now)))))) }
+    ensures some { IfSome result (λ at. points_reached walk.old (moves 3 (operand_words bytes.now)) ≡ option_map (λ points. at ∷ points) (points_reached walk.new (moves 3 (operand_words (drop 3 bytes.now))))) }
     ensures none { result ≡ None → points_reached walk.old (moves 3 (operand_words bytes.now)) ≡ None }
 {
     let (block, _) = bytes.split_first_chunk::<8>()?;
@@ -410,7 +328,7 @@ fn next_point(walk: &mut MovingPoint, bytes: &[u8]) -> Option<Point>
 #[inline(always)]
 fn next_four(walk: &mut MovingPoint, bytes: &[u8]) -> Option<(Point, Point, Point, Point)>
     requires { 17 ≤ length bytes.now }
-    ensures some { IfSome result (λ (a, b, c, d). (walk.new ≡ d) × (points_reached walk.old (moves 3 (operand_words bytes.now)) ≡ option_map (λ points. a ∷ b ∷ c ∷ d ∷ points) (points_reached d (moves 3 (operand_words (drop 12 bytes.now)))))) }
+    ensures some { IfSome result (λ (a, b, c, d). points_reached walk.old (moves 3 (operand_words bytes.now)) ≡ option_map (λ points. a ∷ b ∷ c ∷ d ∷ points) (points_reached walk.new (moves 3 (operand_words (drop 12 bytes.now))))) }
     ensures none { result ≡ None → points_reached walk.old (moves 3 (operand_words bytes.now)) ≡ None }
 {
     let first = next_point(walk, bytes)?;

@@ -1,13 +1,12 @@
-//! RESET, TEXT, TEXTURE, DOMAIN and the colours (PROFILE.md, RESET, Colours, DOMAIN and Opcodes).
-ghost use Rattle.std.specs.Option.{option_or};
+//! The opcodes of attributes, and RESET (PROFILE.md, RESET, Colours, DOMAIN and Opcodes).
 ghost use Rattle.std.specs.Prelude.{if◌then◌else◌, option_map, slice_get, unwrap_or, ◌%◌, ◌==◌, ◌≡◌};
 ghost use Rattle.nap_draw.specs.Names.{StatesAgree, operand_words};
-ghost use Rattle.nap_draw.specs.Rule.{start_domain, rule, domain_in, selected_colour, map_rule, with_drawing};
+ghost use Rattle.nap_draw.specs.Rule.{start_domain, rule, domain_in, selected_colour, map_rule};
 ghost use Rattle.nap_draw.specs.Acts.{clears_macros};
 ghost use Rattle.nap_draw.specs.Execution.{ActsByRule, SetsWork, clears_nothing};
 ghost use Rattle.nap_draw.specs.Operands.{addresses};
 
-use crate::fault::DrawFault;
+use crate::fault::{DrawFault, Drawn};
 use crate::operands::{first_move, word_at, word_or, words_from};
 use crate::work::Work;
 use nap_codes::Opcode;
@@ -22,7 +21,7 @@ impl Work {
     {
         let first = word_at(run, 0);
         let second = word_at(run, 1);
-        let pen = self.pen();
+        let pen = self.state.drawing.pen;
         let domain = domain_after(self.domain, first);
         self.put(Entry::Reset { first, second, pen }, sink)?;
         self.state.drawing.reset(first, second);
@@ -32,25 +31,26 @@ impl Work {
         Ok(second.get() / 16 % 2 == 1)
     }
 
-    pub(crate) fn set_text(&mut self, run: &[u8]) -> Result<(), DrawFault>
+    pub(crate) fn set_text(&mut self, run: &[u8]) -> Drawn
         ensures { SetsWork (rule self.old Opcode.Text (operand_words run.now)) self.old self.new result }
     {
         let size = first_move(self.domain, words_from(run, 2));
-        let look = text_after(self.look(), run, size);
-        self.state.drawing.text = look;
+        self.state.drawing.text = text_after(self.state.drawing.text, run, size);
         Ok(())
     }
 
-    pub(crate) fn set_texture(&mut self, run: &[u8]) -> Result<(), DrawFault>
+    pub(crate) fn set_texture(&mut self, run: &[u8]) -> Drawn
         ensures { SetsWork (rule self.old Opcode.Texture (operand_words run.now)) self.old self.new result }
     {
-        let mask = first_move(self.domain, words_from(run, 1));
-        let texture = texture_after(self.texture(), run, mask);
-        self.state.drawing.texture = texture;
+        let texture = self.state.drawing.texture;
+        self.state.drawing.texture = Texture {
+            word: word_or(run, 0, texture.word),
+            mask: first_move(self.domain, words_from(run, 1)).or(texture.mask),
+        };
         Ok(())
     }
 
-    pub(crate) fn set_domain(&mut self, run: &[u8]) -> Result<(), DrawFault>
+    pub(crate) fn set_domain(&mut self, run: &[u8]) -> Drawn
         ensures { SetsWork (rule self.old Opcode.Domain (operand_words run.now)) self.old self.new result }
     {
         let Some((word, words)) = run.split_first() else {
@@ -61,20 +61,19 @@ impl Work {
             return Err(DrawFault::ThreeD);
         }
         self.domain = domain_in(word);
-        let pel = first_move(self.domain, words);
-        self.set_pel(pel);
+        let pel = self.state.drawing.pel;
+        self.state.drawing.pel = first_move(self.domain, words).unwrap_or(pel);
         Ok(())
     }
 
-    pub(crate) fn select_color(&mut self, run: &[u8]) -> Result<(), DrawFault>
+    pub(crate) fn select_color(&mut self, run: &[u8]) -> Drawn
         ensures { SetsWork (rule self.old Opcode.SelectColor (operand_words run.now)) self.old self.new result }
     {
-        let base = self.base();
-        self.state.drawing.colour = selected_colour(base, self.domain, run);
+        self.state.drawing.colour = selected_colour(self.state.drawing.base, self.domain, run);
         Ok(())
     }
 
-    pub(crate) fn set_color<S: Sink>(&mut self, run: &[u8], sink: &mut S) -> Result<(), DrawFault>
+    pub(crate) fn set_color<S: Sink>(&mut self, run: &[u8], sink: &mut S) -> Drawn
         requires { StatesAgree self.old.state (S.state sink.old) }
         ensures { ActsByRule S.Sink clears_nothing ⊥ (rule self.old Opcode.SetColor (operand_words run.now)) self.old self.new sink.old sink.new result }
     {
@@ -86,13 +85,11 @@ impl Work {
             return Err(DrawFault::ManyColours);
         }
         let grb = colour_bytes(run);
-        match self.colour() {
-            Colour::Own(_) => {
-                self.set_direct_colour(grb);
-                Ok(())
-            }
-            Colour::Direct(_) => {
-                self.set_direct_colour(grb);
+        let colour = self.state.drawing.colour;
+        match colour {
+            Colour::Own(_) | Colour::Direct(_) => {
+                self.state.drawing.base = Base::Direct(grb);
+                self.state.drawing.colour = Colour::Direct(grb);
                 Ok(())
             }
             Colour::Front(addr) => self.put_map(addr, grb, sink),
@@ -101,17 +98,9 @@ impl Work {
         }
     }
 
-    /// Sets the colour of mode 0 to a direct colour.
-    fn set_direct_colour(&mut self, grb: Grb)
-        ensures { self.new ≡ with_drawing self.old (record self.old.state.drawing { base = Base.Direct grb; colour = Colour.Direct grb }) }
-    {
-        self.state.drawing.base = Base::Direct(grb);
-        self.state.drawing.colour = Colour::Direct(grb);
-    }
-
     /// Sets the colour at an address. Puts no entry if it is known to be there already (PROFILE.md, Known colours of
     /// the map).
-    fn put_map<S: Sink>(&mut self, addr: Addr, grb: Grb, sink: &mut S) -> Result<(), DrawFault>
+    fn put_map<S: Sink>(&mut self, addr: Addr, grb: Grb, sink: &mut S) -> Drawn
         requires { StatesAgree self.old.state (S.state sink.old) }
         ensures { ActsByRule S.Sink clears_nothing ⊥ (map_rule self.old addr grb) self.old self.new sink.old sink.new result }
     {
@@ -148,16 +137,6 @@ fn text_after(look: TextLook, run: &[u8], size: Option<Move>) -> TextLook
             None => look.size,
         },
         ..look
-    }
-}
-
-/// Returns the texture with the word of the run, if it has one, and with the mask.
-fn texture_after(texture: Texture, run: &[u8], mask: Option<Move>) -> Texture
-    ensures { result ≡ record { word = unwrap_or (slice_get (operand_words run.now) 0) texture.word; mask = option_or mask texture.mask } }
-{
-    Texture {
-        word: word_or(run, 0, texture.word),
-        mask: mask.or(texture.mask),
     }
 }
 

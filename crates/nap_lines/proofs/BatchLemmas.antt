@@ -1,4 +1,4 @@
-use Rattle.nap_lines.proofs.Common.{Batch, Bool, CharSet, Coordinates, Drawing, Entry, Err, Hand, Ink, IsUtf8, LineSinkState, LinesContinue, List, NeedsLines, NeedsUpTo, None, Ok, OnErr, OnOk, Option, Pen, Result, SinkModel, Some, TakesLinesOf, TextStep, Vec, [], add-one, ap, append-nil, append_assoc, arith, batch_entries, char_front, codes, colour_text, drop, drop-append_seam, false, flat_map, flat_map-append, format_effector, format_effector_front, get_or, hand_of, hand_text, hand_text_without_pen, if◌then◌else◌, ink_of, ink_text, is_err, is_ok, last_point, length, length-append, length-drop, length-take, length-take-le, line, line_front, line_limit, lines, lines_prefix, lines_rest, lines_with, look_text, map, move_front, move_text, mul-le-mul_left, pen_at, pen_text, point_end, point_entry, point_front, points_prefix, points_rest, polyline_entries, refl, rules, set_text, sink_model, subst, suc, sym, take, take-append_seam, take-take, take_more, text_byte_front, text_byte_front_as, text_entries_in, text_entry, text_entry_as, text_prefix, true, vec_capacity, vec_len, zero, ℕ, ◌*◌, ◌++◌, ◌+◌, ◌-◌, ◌<◌, ◌∙◌, ◌∷◌, ◌≡◌, ◌≤◌}
+use Rattle.nap_lines.proofs.Common.{Batch, CharSet, Coordinates, Drawing, Entry, Hand, Ink, List, NeedsLines, Option, Pen, TextStep, Vec, [], add-one, ap, append-nil, append_assoc, arith, batch_entries, char_front, codes, drop, drop-append_seam, drop-cons, drop-drop, flat_map, flat_map-append, format_effector, format_effector_front, get_or, hand_of, hand_text, hand_text_without_pen, ink_of, ink_text, last_point, length, length-append, length-drop, length-take-le, line, line_front, line_limit, lines, lines_join, lines_prefix, lines_rest, map, mul-le-mul_left, pen_at, pen_text, point_end, point_entry, point_front, points_prefix, points_rest, polyline_entries, refl, set_text, subst, suc, sym, take, take-add, take-take, take_more, text_byte_front, text_byte_front_as, text_entries_in, text_entry, text_entry_as, text_prefix, zero, ℕ, ◌*◌, ◌++◌, ◌+◌, ◌-◌, ◌<◌, ◌∙◌, ◌∷◌, ◌≡◌, ◌≤◌}
 use Rattle.nap_list.specs.declared.attribute.Pen.TheVariants.{After}
 
 -- The lines of a batch.
@@ -9,63 +9,23 @@ kept buffer front end n is size =
     let at : length buffer - n ≡ length front = omega (arith, ap length is, length-append front end) in
     rw (at, is) (drop-append_seam front end)
 
--- what is before a code, and what is after it
-pub around : (front two end buffer : List ℕ) (place : ℕ) → buffer ≡ (front ++ two) ++ end → length two ≡ 2 → place ≡ length front → (take place buffer ≡ front) × (drop (place + 2) buffer ≡ end)
-around front two end buffer place is size at = (
-  rw (at, is, append_assoc) (take-append_seam front (two ++ end)),
-  let after_code : place + 2 ≡ length (front ++ two) = omega (arith, length-append front two) in
-      rw (after_code, is) (drop-append_seam (front ++ two) end),
-)
-
 -- the line of a character as far as its set
 abbrev pub char_start : CharSet → List ℕ
 char_start set = codes "CHAR " ++ set_text set ++ codes " "
 
-pub start_utf8 : (set : CharSet) → IsUtf8 (char_start set)
-start_utf8 CharSet.Primary = search rules
-start_utf8 CharSet.Supplementary = search rules
-start_utf8 CharSet.Mosaic = search rules
-start_utf8 CharSet.Drcs = search rules
-
--- one more line was written
-
-pub appended : {T E : Type 0} (r : Result T E) (failed : Bool) (now old bytes : List ℕ) → now ≡ (if is_ok r then old ++ bytes else old) → failed ≡ is_err r → failed ≡ false →
-    now ≡ old ++ bytes
-appended (Ok _) failed now old bytes is was works = is
-appended (Err _) failed now old bytes is was works = let bad : ⊥ = cc in absurd bad
-
-pub worked : {T E : Type 0} (r : Result T E) (A : Type 0) (failed : Bool) → failed ≡ is_err r → failed ≡ false → OnOk r A → A
-worked (Ok _) A failed was works so = so
-worked (Err _) A failed was works so = let bad : ⊥ = cc in absurd bad
-
--- the length of a text that grew
-pub grown : {T E : Type 0} (r : Result T E) (failed : Bool) (now old more : ℕ) → failed ≡ is_err r → failed ≡ false → now ≡ (if is_ok r then old + more else old) → now ≡ old + more
-grown (Ok _) failed now old more was works is = is
-grown (Err _) failed now old more was works is = let bad : ⊥ = cc in absurd bad
-
--- a text that didn't grow
-pub not_grown : {T E A : Type 0} (r : Result T E) (failed : Bool) (now old more : ℕ) → failed ≡ is_err r → failed ≡ true → now ≡ (if is_ok r then old + more else old) → OnErr r A → (now ≡ old) × A
-not_grown (Ok _) failed now old more was fails is so = let bad : ⊥ = cc in absurd bad
-not_grown (Err _) failed now old more was fails is so = (is, so)
-
--- a text that grew had room, or got it
-pub needed : {X Z E : Type 0} (n : ℕ) (old new : Vec X Z) (r : Result (Unit {0}) E) (failed : Bool) → failed ≡ is_err r → failed ≡ false → NeedsUpTo n old new r →
-    (vec_capacity old ≤ vec_capacity new) × (vec_len new ≤ vec_len old + n)
-needed n old new (Ok _) failed was works so = so
-needed n old new (Err _) failed was works so = let bad : ⊥ = cc in absurd bad
-
--- a text whose memory had no room for one more line
-pub no_room : {X Z E : Type 0} (n : ℕ) (old new : Vec X Z) (r : Result (Unit {0}) E) (failed : Bool) → failed ≡ is_err r → failed ≡ true → NeedsUpTo n old new r →
-    (vec_capacity old ≤ vec_capacity new) × (vec_capacity old < vec_len old + n)
-no_room n old new (Ok _) failed was fails so = let bad : ⊥ = cc in absurd bad
-no_room n old new (Err _) failed was fails so = so
-
--- a part has as many items as it was asked for
-pub needs_all : {A X Z : Type 0} (few all : List A) (first count : ℕ) (old new : Vec X Z) (written : ℕ) → few ≡ take count (drop first all) → first + count ≤ length all → NeedsLines (length few) old new written →
-    NeedsLines count old new written
-needs_all few all first count old new written is within needs =
-    let size : length few ≡ count = ap length is ∙ length-take-le count (drop first all) (omega (arith, within, length-drop first all)) in
-    subst (λ (n : ℕ). NeedsLines n old new written) size needs
+-- what was written of a part of a batch is written of its entries from an index on
+pub part_written : {A Z : Type 0} (few all : List A) (part whole : List Entry) (first count n : ℕ) (old new : Vec ℕ Z) → few ≡ take count (drop first all) → length whole ≡ length all →
+    first + count ≤ length whole → part ≡ take count (drop first whole) → n ≤ length few → new.items ≡ old.items ++ lines (take n part) → NeedsLines (length few) old new n →
+    (n ≤ count) × ((new.items ≡ old.items ++ lines (take n (drop first whole))) × NeedsLines count old new n)
+part_written few all part whole first count n old new slice size within is less text needs =
+    let many : length few ≡ count = ap length slice ∙ length-take-le count (drop first all) (omega (arith, length-drop first all)) in
+    let short : n ≤ count = omega arith in (
+      short,
+      (
+        text ∙ ap (λ (list : List Entry). old.items ++ lines list) (ap (take n) is ∙ take-take n count (drop first whole) short),
+        subst (λ (m : ℕ). NeedsLines m old new n) many needs,
+      ),
+    )
 
 -- so many lines of this size
 pub block_few : (count size n : ℕ) → n ≤ count * size → size ≤ line_limit → n ≤ line_limit * count
@@ -78,59 +38,46 @@ one_more {A} f xs i x d less is =
     ∙ ap (λ (bytes : List ℕ). flat_map f (take i xs) ++ bytes) (append-nil (f (get_or xs i d)) ∙ ap f (sym is))
 
 pub text_goes : (first now next before after bytes : List ℕ) → now ≡ first ++ before → next ≡ now ++ bytes → after ≡ before ++ bytes → next ≡ first ++ after
-text_goes first now next before after bytes is more goes =
-    more ∙ ap (λ (list : List ℕ). list ++ bytes) is ∙ append_assoc first before bytes ∙ ap (λ (list : List ℕ). first ++ list) (sym goes)
+text_goes first now next before after bytes is more goes = grind (arith, append_assoc)
 
--- lines from each point to the next
+-- one more line of a list
+pub one_entry : (list rest : List Entry) (x : Entry) (i : ℕ) → drop i list ≡ x ∷ rest → (lines (take (i + 1) list) ≡ lines (take i list) ++ (line x ++ 10 ∷ [])) × (drop (i + 1) list ≡ rest)
+one_entry list rest x i is = (
+  ap lines (take-add i 1 list ∙ ap (λ (more : List Entry). take i list ++ take 1 more) is)
+      ∙ lines_join (take i list) (x ∷ [])
+      ∙ ap (λ (bytes : List ℕ). lines (take i list) ++ bytes) (append-nil (line x ++ 10 ∷ [])),
+  sym (drop-drop 1 i list) ∙ ap (drop 1) is,
+)
 
-pub goes_first : (end : List ℕ) (from : Coordinates) → LinesContinue end from [] from
-unfolding lines_with
-goes_first end from rest = refl
+next_point : (points : List Coordinates) (at : Coordinates) (i : ℕ) → i < length points → at ≡ get_or points i at → drop i points ≡ at ∷ drop (i + 1) points
+next_point points at i less is =
+    let next : suc i ≡ i + 1 = omega arith in
+    drop-cons points i at less ∙ ap (λ (p : Coordinates). p ∷ drop (suc i) points) (sym is) ∙ ap (λ (n : ℕ). at ∷ drop n points) next
 
-pub goes_line : (end : List ℕ) (from at to : Coordinates) (points : List Coordinates) (i : ℕ) → i < length points → to ≡ get_or points i to → LinesContinue end from (take i points) at →
-    lines_with end from (take (i + 1) points) ≡ lines_with end from (take i points) ++ (line_front at to ++ end)
-unfolding lines_with
-goes_line end from at to points i less is goes =
-    let more : take (i + 1) points ≡ take i points ++ to ∷ [] = take_more points i to less ∙ ap (λ (p : Coordinates). take i points ++ p ∷ []) (sym is) in
-    ap (lines_with end from) more ∙ goes (to ∷ []) ∙ ap (λ (bytes : List ℕ). lines_with end from (take i points) ++ bytes) (append-nil (line_front at to ++ end))
+pub next_dot : (d : Drawing) (points : List Coordinates) (at : Coordinates) (i : ℕ) → i < length points → at ≡ get_or points i at →
+    drop i (map (point_entry d) points) ≡ point_entry d at ∷ map (point_entry d) (drop (i + 1) points)
+next_dot d points at i less is = sym (points_rest d points i) ∙ ap (map (point_entry d)) (next_point points at i less is)
 
-pub continues : (end : List ℕ) (from at to : Coordinates) (points : List Coordinates) (i : ℕ) → i < length points → to ≡ get_or points i to → LinesContinue end from (take i points) at →
-    LinesContinue end from (take (i + 1) points) to
-unfolding lines_with
-continues end from at to points i less is goes rest =
-    let more : take (i + 1) points ≡ take i points ++ to ∷ [] = take_more points i to less ∙ ap (λ (p : Coordinates). take i points ++ p ∷ []) (sym is) in
-    let here = lines_with end from (take i points) in
-    ap (λ (done : List Coordinates). lines_with end from (done ++ rest)) more
-    ∙ ap (lines_with end from) (append_assoc (take i points) (to ∷ []) rest)
-    ∙ goes (to ∷ rest)
-    ∙ sym (append_assoc here (line_front at to ++ end) (lines_with end to rest))
-    ∙ ap (λ (bytes : List ℕ). bytes ++ lines_with end to rest) (sym (goes_line end from at to points i less is goes))
+pub next_line : (d : Drawing) (from to : Coordinates) (points : List Coordinates) (list : List Entry) (i : ℕ) → i < length points → to ≡ get_or points i to →
+    drop i list ≡ polyline_entries d from (drop i points) → drop i list ≡ Entry.Line from to (ink_of d) ∷ polyline_entries d to (drop (i + 1) points)
+unfolding polyline_entries
+next_line d from to points list i less is here = here ∙ ap (polyline_entries d from) (next_point points to i less is)
 
 -- lines of points, lines and characters, from their beginnings and ends
 
-dot_line : (d : Drawing) (at : Coordinates) → point_front at ++ (point_end d.pel d.colour ++ 10 ∷ []) ≡ line (point_entry d at) ++ 10 ∷ []
-dot_line d at = parts (point_front at) (codes " pel=") (move_text d.pel) (codes " colour=") (colour_text d.colour) (10 ∷ [])
-  where
-    parts : (f a m b c n : List ℕ) → f ++ (a ++ m ++ b ++ c ++ n) ≡ f ++ a ++ m ++ b ++ c ++ n
-    parts f a m b c n = simp append_assoc
+pub dot_line : (d : Drawing) (at : Coordinates) → point_front at ++ (point_end d.pel d.colour ++ 10 ∷ []) ≡ line (point_entry d at) ++ 10 ∷ []
+dot_line d at = grind (arith, append_assoc)
 
-line_line : (ink : Ink) (from to : Coordinates) → line_front from to ++ (codes " " ++ ink_text ink ++ 10 ∷ []) ≡ line (Entry.Line from to ink) ++ 10 ∷ []
-line_line ink from to = parts (line_front from to) (codes " ") (ink_text ink) (10 ∷ [])
-  where
-    parts : (f a i n : List ℕ) → f ++ (a ++ i ++ n) ≡ f ++ a ++ i ++ n
-    parts f a i n = simp append_assoc
+pub line_line : (ink : Ink) (from to : Coordinates) → line_front from to ++ (codes " " ++ ink_text ink ++ 10 ∷ []) ≡ line (Entry.Line from to ink) ++ 10 ∷ []
+line_line ink from to = grind (arith, append_assoc)
 
 hand_line : (front : List ℕ) (hand : Hand) →
     front ++ (codes " pen=" ++ (pen_text hand.pen ++ (hand_text_without_pen hand ++ 10 ∷ []))) ≡ (front ++ codes " " ++ hand_text hand) ++ 10 ∷ []
-hand_line front hand = parts front (codes " ") (codes "pen=") (pen_text hand.pen) (codes " colour=") (colour_text hand.colour) (codes " text=") (look_text hand.text) (10 ∷ [])
-  where
-    parts : (f a b p c k t l n : List ℕ) → f ++ ((a ++ b) ++ (p ++ (c ++ k ++ t ++ l ++ n))) ≡ (f ++ a ++ (b ++ p ++ c ++ k ++ t ++ l)) ++ n
-    parts f a b p c k t l n = simp append_assoc
+hand_line front hand = grind (arith, append_assoc)
 
 typed_line_as : (step : Option TextStep) (set : CharSet) (hand : Hand) (code : ℕ) →
     text_byte_front_as step set code ++ (codes " pen=" ++ (pen_text hand.pen ++ (hand_text_without_pen hand ++ 10 ∷ []))) ≡ line (text_entry_as step set hand code) ++ 10 ∷ []
-typed_line_as (Some step) set hand code = hand_line (move_front step) hand
-typed_line_as None set hand code = hand_line (char_front set code) hand
+typed_line_as step set hand code = grind (arith, hand_line)
 
 pub typed_line : (set : CharSet) (hand : Hand) (code : ℕ) →
     text_byte_front set code ++ (codes " pen=" ++ (pen_text hand.pen ++ (hand_text_without_pen hand ++ 10 ∷ []))) ≡ line (text_entry set hand code) ++ 10 ∷ []
@@ -138,27 +85,10 @@ typed_line set hand code = typed_line_as (format_effector code) set hand code
 
 -- the line of a byte that is a character's code begins as a Char's line
 letter_typed_as : (step : Option TextStep) (set : CharSet) (code : ℕ) → format_effector code ≡ step → 0x20 ≤ code → text_byte_front_as step set code ≡ char_front set code
-letter_typed_as (Some step) set code is above = let below = (format_effector_front code step is).0 in absurd (omega (arith, below, above))
-letter_typed_as None set code is above = refl
+letter_typed_as step set code is fits = grind (arith, format_effector_front)
 
 pub letter_typed : (set : CharSet) (code : ℕ) → 0x20 ≤ code → text_byte_front set code ≡ char_front set code
 letter_typed set code above = letter_typed_as (format_effector code) set code refl above
-
-pub dots_are_lines : (d : Drawing) (points : List Coordinates) →
-    flat_map (λ at. point_front at ++ (point_end d.pel d.colour ++ 10 ∷ [])) points ≡ lines (map (point_entry d) points)
-dots_are_lines d [] = refl
-dots_are_lines d (p ∷ ps) =
-    ap (λ (bytes : List ℕ). bytes ++ flat_map (λ at. point_front at ++ (point_end d.pel d.colour ++ 10 ∷ [])) ps) (dot_line d p)
-    ∙ ap (λ (bytes : List ℕ). (line (point_entry d p) ++ 10 ∷ []) ++ bytes) (dots_are_lines d ps)
-
-pub lines_are_lines : (d : Drawing) (from : Coordinates) (points : List Coordinates) →
-    lines_with (codes " " ++ ink_text (ink_of d) ++ 10 ∷ []) from points ≡ lines (polyline_entries d from points)
-unfolding lines_with polyline_entries
-lines_are_lines d from [] = refl
-lines_are_lines d from (p ∷ ps) =
-    let end : List ℕ = codes " " ++ ink_text (ink_of d) ++ 10 ∷ [] in
-    ap (λ (bytes : List ℕ). bytes ++ lines_with end p ps) (line_line (ink_of d) from p)
-    ∙ ap (λ (bytes : List ℕ). (line (Entry.Line from p (ink_of d)) ++ 10 ∷ []) ++ bytes) (lines_are_lines d p ps)
 
 pub letters_are_lines : (set : CharSet) (hand : Hand) (cs : List ℕ) →
     flat_map (λ code. text_byte_front set code ++ (codes " pen=after" ++ (hand_text_without_pen hand ++ 10 ∷ []))) cs ≡ lines (text_entries_in set (record hand { pen = After }) cs)
@@ -172,38 +102,23 @@ letters_are_lines set hand (c ∷ cs) =
 pub ended : (buffer pushed cleared end : List ℕ) → buffer ≡ end ++ pushed → pushed ≡ codes "\n" ++ cleared → cleared ≡ [] → buffer ≡ end ++ 10 ∷ []
 ended buffer pushed cleared end is push clear = is ∙ ap (λ (bytes : List ℕ). end ++ bytes) (push ∙ ap (λ (bytes : List ℕ). codes "\n" ++ bytes) clear)
 
--- no more were written than a part has
-pub few_of : {A : Type 0} (few xs : List A) (m n : ℕ) → few ≡ take m xs → n ≤ length few → n ≤ m
-few_of few xs m n is less = omega (arith, ap length is, length-take m xs, less)
+-- the entries of a part of a batch
 
--- the written lines of a batch are those of its entries from an index on
+pub points_part : (b : Batch) (points : _) (d : _) (first count : ℕ) (few : List Coordinates) → b ≡ Batch.Points points d → few ≡ take count (drop first points.now) →
+    map (point_entry d.now) few ≡ take count (drop first (batch_entries b))
+points_part b points d first count few is slice =
+    let all = ap (map (point_entry d.now)) slice ∙ points_prefix d.now (drop first points.now) count ∙ ap (take count) (points_rest d.now points.now first) in
+    rw is all
 
-pub points_written : (b : Batch) (points : _) (d : _) (first m n : ℕ) (old new buffer : List ℕ) (few : List Coordinates) → b ≡ Batch.Points points d → n ≤ m →
-    buffer ≡ point_end d.now.pel d.now.colour ++ 10 ∷ [] → few ≡ take m (drop first points.now) →
-    new ≡ old ++ flat_map (λ at. point_front at ++ buffer) (take n few) → new ≡ old ++ lines (take n (drop first (batch_entries b)))
-points_written b points d first m n old new buffer few is less end slice text =
-    let bytes =
-    text
-    ∙ ap (λ (end : List ℕ). old ++ flat_map (λ at. point_front at ++ end) (take n few)) end
-    ∙ ap (λ (bytes : List ℕ). old ++ bytes) (dots_are_lines d.now (take n few))
-    ∙ ap (λ (points : List Coordinates). old ++ lines (map (point_entry d.now) points)) (ap (take n) slice ∙ take-take n m (drop first points.now) less)
-    ∙ ap (λ (list : List Entry). old ++ lines list) (points_prefix d.now (drop first points.now) n)
-    ∙ ap (λ (list : List Entry). old ++ lines (take n list)) (points_rest d.now points.now first) in
-    rw is bytes
-
-pub lines_written : (b : Batch) (from : _) (points : _) (d : _) (first m n : ℕ) (start : Coordinates) (old new buffer : List ℕ) (few : List Coordinates) → b ≡ Batch.Lines from points d → n ≤ m →
-    buffer ≡ codes " " ++ ink_text (ink_of d.now) ++ 10 ∷ [] → start ≡ last_point from (take first points.now) → few ≡ take m (drop first points.now) →
-    new ≡ old ++ lines_with buffer start (take n few) → new ≡ old ++ lines (take n (drop first (batch_entries b)))
-lines_written b from points d first m n start old new buffer few is less end begins slice text =
-    let bytes =
-    text
-    ∙ ap (λ (end : List ℕ). old ++ lines_with end start (take n few)) end
-    ∙ ap (λ (bytes : List ℕ). old ++ bytes) (lines_are_lines d.now start (take n few))
-    ∙ ap (λ (points : List Coordinates). old ++ lines (polyline_entries d.now start points)) (ap (take n) slice ∙ take-take n m (drop first points.now) less)
-    ∙ ap (λ (at : Coordinates). old ++ lines (polyline_entries d.now at (take n (drop first points.now)))) begins
-    ∙ ap (λ (list : List Entry). old ++ lines list) (lines_prefix d.now (last_point from (take first points.now)) (drop first points.now) n)
-    ∙ ap (λ (list : List Entry). old ++ lines (take n list)) (lines_rest d.now from points.now first) in
-    rw is bytes
+pub lines_part : (b : Batch) (from : _) (points : _) (d : _) (first count : ℕ) (start : Coordinates) (few : List Coordinates) → b ≡ Batch.Lines from points d →
+    start ≡ last_point from (take first points.now) → few ≡ take count (drop first points.now) → polyline_entries d.now start few ≡ take count (drop first (batch_entries b))
+lines_part b from points d first count start few is begins slice =
+    let all =
+    ap (polyline_entries d.now start) slice
+    ∙ ap (λ (at : Coordinates). polyline_entries d.now at (take count (drop first points.now))) begins
+    ∙ lines_prefix d.now (last_point from (take first points.now)) (drop first points.now) count
+    ∙ ap (take count) (lines_rest d.now from points.now first) in
+    rw is all
 
 -- the lines of a text from an index on: after its first byte the pen is that which text leaves
 text_rest : (set : CharSet) (hand : Hand) (codes : List ℕ) (n : ℕ) → text_entries_in set (record hand { pen = After }) (drop n codes) ≡ drop n (text_entries_in set (record hand { pen = After }) codes)
@@ -214,22 +129,17 @@ text_rest set hand (c ∷ cs) (suc n) = text_rest set hand cs n
 
 text_from_index : (set : CharSet) (hand : Hand) (codes : List ℕ) (n : ℕ) → text_entries_in set (record hand { pen = pen_at hand.pen n }) (drop n codes) ≡ drop n (text_entries_in set hand codes)
 unfolding text_entries_in
-text_from_index set hand codes zero = refl
-text_from_index set hand [] (suc n) = refl
-text_from_index set hand (c ∷ cs) (suc n) = text_rest set hand cs n
+text_from_index set hand codes n = grind (arith, text_rest)
 
-pub part_written : (b : Batch) (set : CharSet) (bytes : _) (pen : Pen) (d : _) (first m n : ℕ) (hand : Hand) (old new few : List ℕ) → b ≡ Batch.Text set bytes pen d → n ≤ m →
-    hand ≡ record (hand_of d.now) { pen = pen_at pen first } → few ≡ take m (drop first bytes.now) →
-    new ≡ old ++ lines (take n (text_entries_in set hand few)) → new ≡ old ++ lines (take n (drop first (batch_entries b)))
-part_written b set bytes pen d first m n hand old new few is less in_hand slice text =
-    let whole : Hand = record (hand_of d.now) { pen = pen } in
+pub text_part : (b : Batch) (set : CharSet) (bytes : _) (pen : Pen) (d : _) (first count : ℕ) (hand : Hand) (few : List ℕ) → b ≡ Batch.Text set bytes pen d →
+    hand ≡ record (hand_of d.now) { pen = pen_at pen first } → few ≡ take count (drop first bytes.now) → text_entries_in set hand few ≡ take count (drop first (batch_entries b))
+text_part b set bytes pen d first count hand few is in_hand slice =
+    let now : Hand = record (hand_of d.now) { pen = pen_at pen first } in
     let all =
-    text
-    ∙ ap (λ (hand : Hand). old ++ lines (take n (text_entries_in set hand few))) in_hand
-    ∙ ap (λ (few : List ℕ). old ++ lines (take n (text_entries_in set (record whole { pen = pen_at pen first }) few))) slice
-    ∙ ap (λ (list : List Entry). old ++ lines (take n list)) (text_prefix set (record whole { pen = pen_at pen first }) (drop first bytes.now) m)
-    ∙ ap (λ (list : List Entry). old ++ lines list) (take-take n m (text_entries_in set (record whole { pen = pen_at pen first }) (drop first bytes.now)) less)
-    ∙ ap (λ (list : List Entry). old ++ lines (take n list)) (text_from_index set whole bytes.now first) in
+    ap (λ (hand : Hand). text_entries_in set hand few) in_hand
+    ∙ ap (text_entries_in set now) slice
+    ∙ text_prefix set now (drop first bytes.now) count
+    ∙ ap (take count) (text_from_index set (record (hand_of d.now) { pen = pen }) bytes.now first) in
     rw is all
 
 -- the lines of a text, the first with its own pen
@@ -251,7 +161,3 @@ text_written set hand all others first n old mid new bytes buffer is one front e
     ∙ ap (λ (bytes : List ℕ). bytes ++ rest) (one ∙ ap (λ (bytes : List ℕ). old ++ bytes) (front ∙ typed_line set hand first))
     ∙ append_assoc old (line begun ++ 10 ∷ []) rest
     ∙ ap (λ (list : List Entry). old ++ lines list) (sym taken)
-
--- the model of a sink of lines
-abbrev pub lines_shows : SinkModel LineSinkState
-lines_shows = sink_model (λ s. s.state) (λ s d. Unit {0}) (λ s. false) TakesLinesOf (λ s d e t. ⊥)

@@ -4,4 +4,3 @@ pub mod BlockLemmas
 pub mod KeptLemmas
 pub mod PrintLemmas
 pub mod ShapeLemmas
-pub mod SinkLemmas

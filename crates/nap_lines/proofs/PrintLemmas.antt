@@ -1,24 +1,19 @@
-use Rattle.nap_lines.proofs.Common.{BatchFault, BreaksAfter, BrokeLines, Closes, DeviceFault, Entry, Err, FailsAfter, FaultMatchesDevice, HaltsAfter, IsErrAnd, List, Ok, OnOk, Printing, PrintsLines, PrintsUpTo, Put, PutSome, Result, Sending, SendsAll, SendsBuffered, SendsPart, SinkFault, SinkModel, State, TakesAll, TookLines, [], ap, append-nil, arith, drop, false, inl, inr, length, length-take-le, line, line_memory, lines, lines_join, passes_more, passes_none, passes_on, refl, sending, sending_by, sink_model, stopped_grows, stops_after, subst, sym, take, take-add, take-append-drop, take_all, taken_count, took_none, true, walk, wanting_put, ℕ, ◌++◌, ◌+◌, ◌<◌, ◌∙◌, ◌∷◌, ◌≡◌}
+use Rattle.nap_lines.proofs.Common.{BatchFault, BreaksAfter, BrokeLines, Closes, DeviceFault, Entry, Err, FailsAfter, FaultMatchesDevice, HaltsAfter, IsErrAnd, LineSinkState, List, Ok, Printing, PrintsLines, PrintsUpTo, Put, PutSome, Result, Sending, SendsAll, SendsBuffered, SendsBytes, SendsPart, SinkFault, SinkModel, State, TakesAll, TakesLinesOf, TookLines, [], after, ap, append-nil, arith, drop, false, inr, length, length-take-le, line, line_memory, lines, lines_join, lists_none, passes_more, passes_none, passes_on, refl, sending, sending_by, sink_model, stops_after, subst, sym, take, take-add, take-append-drop, take_all, taken_count, took_none, true, walk, wanting_put, ℕ, ◌++◌, ◌+◌, ◌<◌, ◌∙◌, ◌∷◌, ◌≡◌}
 use Rattle.nap_list.specs.declared.device.Outlet as outlet
 
 -- The buffered bytes are sent.
 
 -- all of them were sent, so none is left
 pub sent_all : (s t : Sending) (bytes buffered now : List ℕ) → bytes ≡ buffered → now ≡ [] → SendsAll s bytes t → SendsBuffered s buffered now t (Ok tt)
-sent_all s t bytes buffered now is none sent = (
-  record { sent = bytes; parts = append-nil buffered ∙ sym is ∙ sym (append-nil bytes) ∙ ap (λ (left : List ℕ). bytes ++ left) (sym none); grows = sent.grows },
-  sent.failed,
-)
+sent_all s t bytes buffered now is none sent = grind (arith, append-nil)
 
-pub sent_part : {O : Type 0} (o : outlet.Ghosts O) (w u : O) (m n : ℕ) (bytes buffered : List ℕ) (taken : ℕ) → bytes ≡ buffered → FailsAfter o w m bytes taken u n → (f : DeviceFault) →
+sent_part : {O : Type 0} (o : outlet.Ghosts O) (w u : O) (m n : ℕ) (bytes buffered : List ℕ) (taken : ℕ) → bytes ≡ buffered → FailsAfter o w m bytes taken u n →
+    SendsPart (sending o w m) buffered [] (drop taken bytes) (sending o u n)
+sent_part o w u m n bytes buffered taken is stops = grind (arith, append-nil, take-append-drop)
+
+pub sent_some : {O : Type 0} (o : outlet.Ghosts O) (w u : O) (m n : ℕ) (bytes buffered : List ℕ) (taken : ℕ) → bytes ≡ buffered → FailsAfter o w m bytes taken u n → (f : DeviceFault) →
     SendsBuffered (sending o w m) buffered buffered (sending o u n) (Err f)
-sent_part o w u m n bytes buffered taken is stops f = (
-  (
-    drop taken bytes,
-    record { sent = take taken bytes; parts = append-nil buffered ∙ sym is ∙ sym (take-append-drop taken bytes); grows = stopped_grows o w m bytes taken u n stops },
-  ),
-  stops.failed,
-)
+sent_some o w u m n bytes buffered taken is stops f = ((drop taken bytes, sent_part o w u m n bytes buffered taken is stops), stops.failed)
 
 -- a printer is closed
 
@@ -30,19 +25,14 @@ closes_failed o s set = record {
   still = λ _. (refl, refl);
 }
 
-pub closes_by : {O : Type 0} (o : outlet.Ghosts O) (s : Printing O) (w : O) (n : ℕ) (now : List ℕ) (r : Result (Unit {0}) DeviceFault) → o.failed s.outlet ≡ false →
-    SendsBuffered (sending_by o s) s.buffered now (sending o w n) r → OnOk r (now ≡ []) → Closes o s w n
-closes_by o s w n now (Ok done) works sent none = record {
-  left = now;
-  passes = sent.0;
-  all = λ _. none;
-  still = λ set. (let bad : true ≡ false = sym set ∙ works in cc);
-}
-closes_by o s w n now (Err fault) works sent none = record {
-  left = sent.0.0;
-  passes = sent.0.1;
-  all = λ clear. (let bad : true ≡ false = sym sent.1 ∙ clear in cc);
-  still = λ set. (let bad : true ≡ false = sym set ∙ works in cc);
+pub closes_by : {O : Type 0} (o : outlet.Ghosts O) (s : Printing O) (w : O) (n : ℕ) (bytes : List ℕ) (r : Result (Unit {0}) ℕ) → o.failed s.outlet ≡ false → bytes ≡ s.buffered →
+    SendsBytes o s.outlet s.written bytes w n r → Closes o s w n
+closes_by o s w n bytes (Ok done) works is sent = grind (arith, sent_all)
+closes_by o s w n bytes (Err taken) works is stops = record {
+  left = drop taken bytes;
+  passes = sent_part o s.outlet w s.written n bytes s.buffered taken is stops;
+  all = λ clear. (let bad : true ≡ false = sym stops.failed ∙ clear in cc);
+  still = λ set. (let bad : ⊥ = cc in absurd bad);
 }
 
 -- Lines after the buffered ones.
@@ -54,14 +44,6 @@ one_line e = sym (append-nil (line e ++ 10 ∷ []))
 pub buffered_too : (s t : Sending) (buffered now bytes left : List ℕ) → now ≡ buffered ++ bytes → SendsPart s now [] left t → SendsPart s buffered bytes left t
 buffered_too s t buffered now bytes left is h = record { sent = h.sent; parts = sym is ∙ sym (append-nil now) ∙ h.parts; grows = h.grows }
 
--- the lines of more entries are buffered
-pub lines_on : (s t : Sending) (buffered left now : List ℕ) (list : List Entry) (n more : ℕ) → SendsPart s buffered (lines (take n list)) left t →
-    now ≡ left ++ lines (take more (drop n list)) → SendsPart s buffered (lines (take (n + more) list)) now t
-lines_on s t buffered left now list n more h is =
-    let all : lines (take (n + more) list) ≡ lines (take n list) ++ lines (take more (drop n list)) =
-    ap lines (take-add n more list) ∙ lines_join (take n list) (take more (drop n list)) in
-    rw (all, is) (passes_on s t buffered left (lines (take n list)) (lines (take more (drop n list))) h)
-
 -- the buffered bytes were sent
 pub sent_on : (s t u : Sending) (buffered mid left bytes : List ℕ) → SendsPart s buffered bytes mid t → SendsPart t mid [] left u → SendsPart s buffered bytes left u
 sent_on s t u buffered mid left bytes first second =
@@ -71,15 +53,15 @@ sent_on s t u buffered mid left bytes first second =
 pub chunk : (s t u : Sending) (list : List Entry) (n more : ℕ) (first buffered left now : List ℕ) → SendsPart s first (lines (take n list)) buffered t → SendsPart t buffered [] left u →
     now ≡ left ++ lines (take more (drop n list)) → SendsPart s first (lines (take (n + more) list)) now u
 chunk s t u list n more first buffered left now passes sent is =
-    lines_on s u first left now list n more (sent_on s t u first buffered left (lines (take n list)) passes sent) is
+    let all : lines (take (n + more) list) ≡ lines (take n list) ++ lines (take more (drop n list)) =
+    ap lines (take-add n more list) ∙ lines_join (take n list) (take more (drop n list)) in
+    rw (all, is) (passes_on s u first left (lines (take n list)) (lines (take more (drop n list))) (sent_on s t u first buffered left (lines (take n list)) passes sent))
 
 pub prints_state : {O : Type 0} (o : outlet.Ghosts O) (s t : Printing O) (d : List Entry) (r : Result (Unit {0}) BatchFault) → PrintsLines o s d t r → t.state ≡ s.state
-prints_state o s t d (Ok done) prints = prints.2
-prints_state o s t d (Err stop) prints = prints.2
+prints_state o s t d r is = grind arith
 
 pub prints_space : {O : Type 0} (o : outlet.Ghosts O) (s t : Printing O) (d : List Entry) (r : Result (Unit {0}) BatchFault) → PrintsLines o s d t r → t.space ≡ s.space
-prints_space o s t d (Ok done) prints = prints.3
-prints_space o s t d (Err stop) prints = prints.3
+prints_space o s t d r is = grind arith
 
 module _ {O : Type 0} (o : outlet.Ghosts O) where
   -- the model of a printer
@@ -123,8 +105,9 @@ module _ {O : Type 0} (o : outlet.Ghosts O) where
       record { write = λ _. failed; memory = λ e. (let bad : ⊥ = cc in absurd bad); none = λ set. not_failed set },
     )
 
-    put_by : (r : Result (Unit {0}) BatchFault) → PrintsLines o s d t r → v ≡ walk s.state (take (taken_count (length d) r) d) → Put printer_shows d s u r
-    put_by (Ok done) (passes, clear, _, _) is =
+    -- a batch was put into a printer
+    pub put_at : (r : Result (Unit {0}) BatchFault) → PrintsLines o s d t r → v ≡ walk s.state (take (taken_count (length d) r) d) → Put printer_shows d s u r
+    put_at (Ok done) (passes, clear, _, _) is =
         let all = take_all (length d) d (omega arith) in
         record {
           took = record { passes = subst (λ (d : List Entry). SendsPart (sending_by o s) s.buffered (lines d) t.buffered (sending_by o t)) refl passes; failed = clear ∙ sym works; state = is ∙ ap (walk s.state) all; space = space };
@@ -132,11 +115,7 @@ module _ {O : Type 0} (o : outlet.Ghosts O) where
           works = λ _. clear;
           none = λ set. not_failed set;
         }
-    put_by (Err stop) (stops, less, _, _) is = stopped stop.taken stop.fault stops less is
-
-    -- a batch was put into a printer
-    pub put_at : (r : Result (Unit {0}) BatchFault) → PrintsLines o s d t r → v ≡ walk s.state (take (taken_count (length d) r) d) → Put printer_shows d s u r
-    put_at r prints is = put_by r prints is
+    put_at (Err stop) (stops, less, _, _) is = stopped stop.taken stop.fault stops less is
 
   -- One entry's line was buffered too, and then the buffer was sent if it was large.
   module _ (s : Printing O) (e : Entry) (w : O) (n : ℕ) (mid now : List ℕ) (buffered_is : mid ≡ s.buffered ++ lines (e ∷ [])) where
@@ -162,19 +141,10 @@ module _ {O : Type 0} (o : outlet.Ghosts O) where
   -- a shape was taken, or why it wasn't
 
   pub shape_taken : (s u : Printing O) (e : Entry) → o.failed s.outlet ≡ false → TookLines o s (e ∷ []) u → TakesAll printer_shows (e ∷ []) s u
-  shape_taken s u e works took = record {
-    took = took;
-    state = took.state;
-    works = λ _. took.failed ∙ works;
-    none = λ set. (let bad : ⊥ = cc in absurd bad);
-  }
+  shape_taken s u e works took = grind arith
 
   pub shape_broken : (s u : Printing O) (e : Entry) → o.failed s.outlet ≡ false → BrokeLines o s [] e u → PutSome {A = Unit {0}} printer_shows (e ∷ []) s u (Err SinkFault.Write)
-  shape_broken s u e works broke = (
-    0,
-    inr (record { prefix = []; next = e; rest = []; parts = refl; count = refl; broken = broke }),
-    record { write = λ _. broke.failed; memory = λ is. (let bad : ⊥ = cc in absurd bad); none = λ set. (let bad : ⊥ = cc in absurd bad) },
-  )
+  shape_broken s u e works broke = grind arith
 
   pub shape_refused : (s : Printing O) (now : List ℕ) (e : Entry) (r : Result (Unit {0}) SinkFault) → now ≡ s.buffered → IsErrAnd r (λ fault. fault ≡ SinkFault.Memory) → o.failed s.outlet ≡ false →
       s.space < line_memory → PutSome printer_shows (e ∷ []) s (record s { buffered = now }) r
@@ -182,9 +152,19 @@ module _ {O : Type 0} (o : outlet.Ghosts O) where
       let same : record s { buffered = now } ≡ s = ap (λ (buffered : List ℕ). record s { buffered = buffered }) kept in
       subst (λ (u : Printing O). PutSome printer_shows (e ∷ []) s u r) (sym same) (wanting_put printer_shows s e r wants (took_none o s) works few)
 
-  pub shape_failed : (s : Printing O) (list : List Entry) → o.failed s.outlet ≡ true → PutSome {A = Unit {0}} printer_shows list s s (Err SinkFault.Write)
-  shape_failed s list set = (
-    0,
-    inl (set, refl, refl),
-    record { write = λ _. set; memory = λ is. (let bad : ⊥ = cc in absurd bad); none = λ _. (refl, refl, refl) },
-  )
+-- the model of a sink of lines
+abbrev pub lines_shows : SinkModel LineSinkState
+lines_shows = sink_model (λ s. s.state) (λ s d. Unit {0}) (λ s. false) TakesLinesOf (λ s d e t. ⊥)
+
+-- a shape was put into a sink of lines
+
+pub shape_listed : (s : LineSinkState) (old now : List ℕ) (v w : State) (e : Entry) → record { text = old; state = v } ≡ s → now ≡ old ++ (line e ++ 10 ∷ []) → w ≡ after v e →
+    TakesAll lines_shows (e ∷ []) s (record { text = now; state = w })
+unfolding walk
+shape_listed s old now v w e is text state = grind (arith, one_line)
+
+pub shape_unlisted : (s : LineSinkState) (old now : List ℕ) (v : State) (e : Entry) (r : Result (Unit {0}) SinkFault) → record { text = old; state = v } ≡ s → now ≡ old →
+    IsErrAnd r (λ fault. fault ≡ SinkFault.Memory) → PutSome lines_shows (e ∷ []) s (record { text = now; state = v }) r
+shape_unlisted s old now v e r is kept wants =
+    let same : record { text = now; state = v } ≡ s = ap (λ (text : List ℕ). record { text = text; state = v }) kept ∙ is in
+    subst (λ (u : LineSinkState). PutSome lines_shows (e ∷ []) s u r) (sym same) (wanting_put lines_shows s e r wants (lists_none s) refl tt)

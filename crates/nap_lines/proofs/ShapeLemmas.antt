@@ -26,10 +26,7 @@ points_join xs ys = flat_map-append (λ (p : Coordinates). codes " " ++ point_te
 
 -- the points of a shape are those that it goes through, and its start again if it returns there
 way_is : (kind : ShapeKind) (p : Coordinates) (points : List Coordinates) → outline kind (p ∷ points) ≡ p ∷ (points ++ closing_points kind p points)
-way_is ShapeKind.Arc p [] = refl
-way_is ShapeKind.Arc p (q ∷ []) = refl
-way_is ShapeKind.Arc p (q ∷ (r ∷ rest)) = sym (ap (λ (points : List Coordinates). p ∷ points) (append-nil (q ∷ (r ∷ rest))))
-way_is ShapeKind.Poly p points = sym (ap (λ (points : List Coordinates). p ∷ points) (append-nil points))
+way_is kind p points = grind (arith, append-nil)
 
 way_text : (kind : ShapeKind) (p : Coordinates) (points back : List Coordinates) → closing_points kind p points ≡ back →
     points_text (outline kind (p ∷ points)) ≡ points_text (p ∷ []) ++ (points_text points ++ points_text back)
@@ -54,8 +51,7 @@ drawn_line shape = shape_line shape.kind shape.filled shape.from shape.others.no
 
 -- a shape has few points after its start
 few_displaced : (kind : ShapeKind) (filled : Bool) (p : Coordinates) (others : List Coordinates) (ink : Ink) → WellMade (shape_entry kind filled (outline kind (p ∷ others)) ink) → length others ≤ 2000
-few_displaced ShapeKind.Arc filled p others ink made = omega (arith, made.1, ap length (way_is ShapeKind.Arc p others), length-append others (closing_points ShapeKind.Arc p others))
-few_displaced ShapeKind.Poly filled p others ink made = omega (arith, made.1, ap length (way_is ShapeKind.Poly p others), length-append others (closing_points ShapeKind.Poly p others))
+few_displaced kind filled p others ink is = grind (arith, way_is, length-append)
 
 pub few_others : (shape : Shape) → WellMade (entry_of_shape shape) → length shape.others.now ≤ 2000
 few_others shape made = few_displaced shape.kind shape.filled shape.from shape.others.now (ink_of shape.drawing.now) made

@@ -1,4 +1,4 @@
-use Rattle.std.specs.Prelude.{ℕ, zero, suc, ◌≡◌, List, [], ◌∷◌, ◌++◌, Option, Some, None, codes}
+use Rattle.std.specs.Prelude.{ℕ, zero, suc, List, ◌++◌, Option, Some, None, codes}
 use Rattle.nap_values.specs.Coordinates.{Coordinates, Displacement}
 use Rattle.nap_codes.specs.declared.code_set.CharSet.{CharSet}
 use Rattle.nap_codes.specs.declared.control.TextStep.{TextStep}
@@ -42,12 +42,3 @@ hand_text_without_pen hand = codes " colour=" ++ colour_text hand.colour ++ code
 abbrev pub pen_at : Pen → ℕ → Pen
 pen_at pen zero = pen
 pen_at pen (suc n) = After
-
--- the lines of Lines from this point to the first, and from each point to the next, each with this end
-unfoldable pub lines_with : List ℕ → Coordinates → List Coordinates → List ℕ
-lines_with end p [] = []
-lines_with end p (q ∷ qs) = line_front p q ++ end ++ lines_with end q qs
-
--- lines as far as a point are followed by the lines from it
-abbrev pub LinesContinue : List ℕ → Coordinates → List Coordinates → Coordinates → Type 0
-LinesContinue end from done at = (rest : List Coordinates) → lines_with end from (done ++ rest) ≡ lines_with end from done ++ lines_with end at rest

@@ -1,4 +1,4 @@
-use Rattle.std.specs.Prelude.{ℕ, zero, suc, ◌+◌, List, [], ◌∷◌, ◌++◌, length, take, drop}
+use Rattle.std.specs.Prelude.{ℕ, zero, suc, ◌+◌, ◌*◌, List, ◌++◌, length, take, drop, get_or}
 use Rattle.nap_lines.specs.Lines.{code_text}
 
 -- Blocks of lines, which differ only in the digits of a code.
@@ -7,12 +7,12 @@ use Rattle.nap_lines.specs.Lines.{code_text}
 abbrev pub patched : List ℕ → ℕ → List ℕ → List ℕ
 patched block at bytes = take at block ++ (bytes ++ drop (at + length bytes) block)
 
--- n copies of a line
-unfoldable pub repeated : ℕ → List ℕ → List ℕ
-repeated zero line = []
-repeated (suc n) line = repeated n line ++ line
+-- a block with n copies of a line in front
+unfoldable pub filled : ℕ → List ℕ → List ℕ → List ℕ
+filled zero line block = block
+filled (suc n) line block = patched (filled n line block) (n * length line) line
 
--- lines of this size, in which the digits of these codes are at an index, one code a line
-unfoldable pub recoded : ℕ → ℕ → List ℕ → List ℕ → List ℕ
-recoded size place [] lines = lines
-recoded size place (code ∷ codes) lines = (take place lines ++ (code_text code ++ drop (place + 2) (take size lines))) ++ recoded size place codes (drop size lines)
+-- a block of lines of this size, with the digits of the first n codes at an index of as many lines
+unfoldable pub recoded : ℕ → ℕ → List ℕ → ℕ → List ℕ → List ℕ
+recoded size place codes zero block = block
+recoded size place codes (suc n) block = patched (recoded size place codes n block) (n * size + place) (code_text (get_or codes n 0))

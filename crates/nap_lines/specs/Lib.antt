@@ -5,5 +5,4 @@ pub mod Listing
 pub mod Parts
 pub mod Printing
 pub mod PrintingLaws
-pub mod Shapes
 pub mod Writing

@@ -7,6 +7,11 @@ use Rattle.nap_list.specs.declared.entry.Entry.{Entry}
 abbrev pub line_limit : ℕ
 line_limit = 256
 
+-- These bytes, at most n, were prepended to a buffer.
+pub record Pushes (n : ℕ) (bytes old new : List ℕ) : Type 0 where
+  pub text : new ≡ bytes ++ old
+  pub size : length new ≤ length old + n
+
 -- A text grew by at most n bytes; or memory ran out, since its memory had no room for so many. No memory was given back.
 abbrev pub NeedsUpTo : {X Z E : Type 0} → ℕ → Vec X Z → Vec X Z → Result (Unit {0}) E → Type 0
 NeedsUpTo n old new (Ok done) = (vec_capacity old ≤ vec_capacity new) × (vec_len new ≤ vec_len old + n)

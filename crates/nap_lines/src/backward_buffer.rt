@@ -1,5 +1,5 @@
 //! A buffer for a line that is filled from the back.
-ghost use Rattle.std.specs.Prelude.{◌≡◌, ◌+◌, ◌<◌, ◌≤◌, [], ◌++◌, ◌-◌, codes, drop, length, take, decimal};
+ghost use Rattle.std.specs.Prelude.{◌≡◌, ◌+◌, ◌<◌, ◌≤◌, [], ◌++◌, ◌-◌, drop, length, take, decimal};
 ghost use Rattle.std.specs.Char.{digit_char};
 ghost use Rattle.std.specs.Fmt.{signed_decimal};
 ghost use Rattle.std.specs.Str.{IsUtf8};
@@ -11,6 +11,9 @@ use std::marker::Model;
 
 /// The size of the buffer, enough for the line of any entry that isn't a shape.
 const LINE_SIZE: usize = 256;
+
+/// The buffer of what writes lines.
+pub(crate) type Buffer = BackwardBuffer;
 
 /// A line so far: each part is prepended to those that are there.
 #[derive(Drop)]
@@ -75,7 +78,9 @@ impl BackwardBuffer {
         self.at += self.len() - count;
     }
 
-    fn push_bytes(&mut self, bytes: &[u8])
+    /// Prepends bytes.
+    #[inline(always)]
+    pub(crate) fn push_bytes(&mut self, bytes: &[u8])
         requires space { length bytes.now + length self.old ≤ line_limit }
         requires utf8 { IsUtf8 bytes.now }
         ensures text { self.new ≡ bytes.now ++ self.old }
@@ -94,22 +99,6 @@ impl BackwardBuffer {
         ensures size { length self.new ≡ length text.now + length self.old }
     {
         self.push_bytes(text.as_bytes());
-    }
-
-    /// Prepends the name of a Line.
-    #[inline(always)]
-    pub(crate) fn push_line_name(&mut self)
-        requires space { length self.old + 5 ≤ line_limit }
-        ensures text { self.new ≡ codes "LINE " ++ self.old }
-        ensures size { length self.new ≡ 5 + length self.old }
-    {
-        let at = self.at - 5;
-        self.bytes[at] = b'L';
-        self.bytes[at + 1] = b'I';
-        self.bytes[at + 2] = b'N';
-        self.bytes[at + 3] = b'E';
-        self.bytes[at + 4] = b' ';
-        self.at = at;
     }
 
     /// Prepends the decimal digits of a number.
@@ -160,17 +149,6 @@ impl BackwardBuffer {
         if number < 0 {
             self.push("-");
         }
-    }
-
-    /// Replaces the two bytes at an index by the hexadecimal digits of a code.
-    pub(crate) fn replace_code(&mut self, place: usize, code: u8)
-        requires within { place + 2 ≤ length self.old }
-        requires front { IsUtf8 (take place self.old) }
-        requires rest { IsUtf8 (drop (place + 2) self.old) }
-        ensures { self.new ≡ take place self.old ++ (code_text code ++ drop (place + 2) self.old) }
-    {
-        let at = self.at + place;
-        self.bytes[at..at + 2].copy_from_slice(&[digit(code / 16), digit(code % 16)]);
     }
 
     /// Prepends the two hexadecimal digits of a code.

@@ -1,85 +1,20 @@
 //! Lines of the entries of a batch, which share their ends.
-ghost use Rattle.std.specs.Prelude.{◌≡◌, ◌+◌, ◌≤◌, ◌++◌, drop, flat_map, length, take, ◌-◌, OnOk, OnErr};
-ghost use Rattle.std.specs.Str.{IsUtf8};
-ghost use Rattle.nap_list.specs.Batches.{batch_entries, text_entries_in};
+ghost use Rattle.std.specs.Prelude.{◌≡◌, ◌+◌, ◌≤◌, ◌++◌, drop, flat_map, length, map, take};
+ghost use Rattle.nap_list.specs.Batches.{batch_entries, point_entry, polyline_entries, text_entries_in};
 ghost use Rattle.nap_lines.specs.Listing.{lines};
-ghost use Rattle.nap_lines.specs.Batches.{point_front, point_end, line_front, char_front, move_front, text_byte_front, lines_with, pen_at};
-ghost use Rattle.nap_lines.specs.Writing.{NeedsLines, line_limit, NeedsUpTo};
+ghost use Rattle.nap_lines.specs.Batches.{point_front, point_end, line_front, char_front, move_front, text_byte_front, pen_at};
+ghost use Rattle.nap_lines.specs.Writing.{NeedsLines, Pushes, line_limit};
 
-use crate::backward_buffer::BackwardBuffer;
+use crate::backward_buffer::{BackwardBuffer, Buffer};
 use crate::block::{BLOCK, fill_lines, recode_lines, slice_part};
 use nap_codes::{CharSet, TextStep, format_effector};
-use nap_list::{Batch, Colour, Hand, Pen, line_start};
+use nap_list::{Batch, Colour, Drawing, Hand, Pen, line_start};
 use nap_values::{Move, Point};
-use std::alloc::AllocError;
 
-/// Appends the line of a byte of a text that may be a format effector, with the last bytes of the buffer as its end.
-/// Afterwards the buffer has the beginning of a Char's line again.
-fn write_text_byte(
-    buffer: &mut BackwardBuffer,
-    text: &mut Vec<u8>,
-    set: CharSet,
-    code: u8,
-    end: usize,
-) -> Result<(), AllocError>
-    requires within { end ≤ length buffer.old }
-    requires space { end + 21 ≤ line_limit }
-    requires utf8 { IsUtf8 (drop (length buffer.old - end) buffer.old) }
-    ensures space { buffer.new ≡ char_front set 0 ++ drop (length buffer.old - end) buffer.old }
-    ensures ok { OnOk result (text.new.items ≡ text.old.items ++ (text_byte_front set code ++ drop (length buffer.old - end) buffer.old)) }
-    ensures err { OnErr result (text.new.items ≡ text.old.items) }
-    ensures memory { NeedsUpTo 256 text.old text.new result }
-{
-    buffer.keep_last(end);
-    buffer.push_text_byte_front(set, code);
-    let written = text.extend_from_slice(buffer.as_slice());
-    buffer.keep_last(end);
-    buffer.push_char_front(set, 0);
-    written
-}
-
-/// Appends a line for each byte of a text, one by one, each with the buffer's contents as its end. Returns the number
-/// of lines, which is less than the number of bytes only if memory runs out.
-pub(crate) fn write_few(
-    buffer: &mut BackwardBuffer,
-    text: &mut Vec<u8>,
-    set: CharSet,
-    codes: &[u8],
-) -> usize
-    requires space { length buffer.old + 21 ≤ line_limit }
-    ensures count { result ≤ length codes.now }
-    ensures text { text.new.items ≡ text.old.items ++ flat_map (λ code. text_byte_front set code ++ buffer.old) (take result codes.now) }
-    ensures memory { NeedsLines (length codes.now) text.old text.new result }
-{
-    let end = buffer.len();
-    // The digits of each code replace these.
-    buffer.push_char_front(set, 0);
-    let place = buffer.len() - end - 2;
-    let mut written = 0;
-    for code in codes {
-        if *code < 0x20 {
-            if write_text_byte(buffer, text, set, *code, end).is_err() {
-                return written;
-            }
-        } else {
-            buffer.replace_code(place, *code);
-            if text.extend_from_slice(buffer.as_slice()).is_err() {
-                return written;
-            }
-        }
-        written += 1;
-    }
-    written
-}
-
-/// Appends a line for each byte of a text, by blocks of lines, as `write_few` does.
+/// Appends a line for each byte of a text, each with the buffer's contents as its end, by blocks of lines. Returns the
+/// number of lines, which is less than the number of bytes only if memory runs out.
 #[inline(never)]
-pub(crate) fn write_many(
-    buffer: &mut BackwardBuffer,
-    text: &mut Vec<u8>,
-    set: CharSet,
-    codes: &[u8],
-) -> usize
+fn write_many(buffer: &mut Buffer, text: &mut Vec<u8>, set: CharSet, codes: &[u8]) -> usize
     requires space { length buffer.old + 21 ≤ line_limit }
     ensures count { result ≤ length codes.now }
     ensures text { text.new.items ≡ text.old.items ++ flat_map (λ code. text_byte_front set code ++ buffer.old) (take result codes.now) }
@@ -98,17 +33,16 @@ pub(crate) fn write_many(
         let most = ready.min(codes.len() - written);
         let count = recode_lines(&mut block, size, place, slice_part(codes, written, most));
         if count == 0 {
-            if write_text_byte(buffer, text, set, codes[written], end).is_err() {
+            buffer.keep_last(end);
+            buffer.push_text_byte_front(set, codes[written]);
+            let Ok(()) = text.extend_from_slice(buffer.as_slice()) else {
                 return written;
-            }
+            };
             written += 1;
         } else {
-            if text
-                .extend_from_slice(slice_part(&block, 0, count * size))
-                .is_err()
-            {
+            let Ok(()) = text.extend_from_slice(slice_part(&block, 0, count * size)) else {
                 return written;
-            }
+            };
             written += count;
         }
     }
@@ -119,8 +53,7 @@ impl BackwardBuffer {
     /// Prepends the end of a Point's line: its attributes.
     pub(crate) fn push_point_end(&mut self, pel: Move, colour: &Colour)
         requires space { length self.old + 75 ≤ line_limit }
-        ensures text { self.new ≡ point_end pel colour.now ++ self.old }
-        ensures size { length self.new ≤ length self.old + 75 }
+        ensures { Pushes 75 (point_end pel colour.now) self.old self.new }
     {
         self.push_colour_field(colour);
         self.push_displacement(pel);
@@ -154,7 +87,12 @@ impl BackwardBuffer {
     {
         self.push_code(code);
         self.push(" ");
-        self.push_char_set(set);
+        match set {
+            CharSet::Primary => self.push("primary"),
+            CharSet::Supplementary => self.push("supplementary"),
+            CharSet::Mosaic => self.push("mosaic"),
+            CharSet::Drcs => self.push("drcs"),
+        }
         self.push("CHAR ");
     }
 
@@ -163,7 +101,20 @@ impl BackwardBuffer {
         requires space { length self.old + 14 ≤ line_limit }
         ensures { self.new ≡ move_front step ++ self.old }
     {
-        self.push_text_step(step);
+        match step {
+            TextStep::Apb => self.push("APB"),
+            TextStep::Apf => self.push("APF"),
+            TextStep::Apd => self.push("APD"),
+            TextStep::Apu => self.push("APU"),
+            TextStep::Apr => self.push("APR"),
+            TextStep::Aph => self.push("APH"),
+            TextStep::Aps(row, column) => {
+                self.push_code(column);
+                self.push(" ");
+                self.push_code(row);
+                self.push("APS ");
+            }
+        }
         self.push("MOVE ");
     }
 
@@ -179,22 +130,29 @@ impl BackwardBuffer {
     }
 }
 
-/// Appends a line for each point, each with the end that is in the buffer. Returns the number of lines, which is less
-/// than the number of points only if memory runs out.
-fn write_point_lines(buffer: &mut BackwardBuffer, text: &mut Vec<u8>, points: &[Point]) -> usize
-    requires space { length buffer.old + 27 ≤ line_limit }
+/// Appends a line for each point, with these attributes. Returns the number of lines, which is less than the number of
+/// points only if memory runs out.
+fn write_point_lines(
+    buffer: &mut Buffer,
+    text: &mut Vec<u8>,
+    points: &[Point],
+    drawing: &Drawing,
+) -> usize
     ensures count { result ≤ length points.now }
-    ensures text { text.new.items ≡ text.old.items ++ flat_map (λ at. point_front at ++ buffer.old) (take result points.now) }
+    ensures text { text.new.items ≡ text.old.items ++ lines (take result (map (point_entry drawing.now) points.now)) }
     ensures memory { NeedsLines (length points.now) text.old text.new result }
 {
+    buffer.clear();
+    buffer.push("\n");
+    buffer.push_point_end(drawing.pel, &drawing.colour);
     let end = buffer.len();
     let mut written = 0;
     for at in points {
         buffer.keep_last(end);
         buffer.push_point_front(*at);
-        if text.extend_from_slice(buffer.as_slice()).is_err() {
+        let Ok(()) = text.extend_from_slice(buffer.as_slice()) else {
             return written;
-        }
+        };
         written += 1;
     }
     written
@@ -203,58 +161,43 @@ fn write_point_lines(buffer: &mut BackwardBuffer, text: &mut Vec<u8>, points: &[
 /// Appends a line for each Line from `from` to the first point, and from each point to the next, as `write_point_lines`
 /// does.
 fn write_line_lines(
-    buffer: &mut BackwardBuffer,
+    buffer: &mut Buffer,
     text: &mut Vec<u8>,
     from: Point,
     points: &[Point],
+    drawing: &Drawing,
 ) -> usize
-    requires space { length buffer.old + 48 ≤ line_limit }
     ensures count { result ≤ length points.now }
-    ensures text { text.new.items ≡ text.old.items ++ lines_with buffer.old from (take result points.now) }
+    ensures text { text.new.items ≡ text.old.items ++ lines (take result (polyline_entries drawing.now from points.now)) }
     ensures memory { NeedsLines (length points.now) text.old text.new result }
 {
+    buffer.clear();
+    buffer.push("\n");
+    buffer.push_ink_part(&drawing.ink());
     let end = buffer.len();
     let mut kept = buffer.push_point_copied(from);
+    // A copy is stored with no test for overlap.
+    buffer.push("LINE ");
+    let name = buffer.copy_of_first(5);
     let mut written = 0;
     for to in points {
         buffer.keep_last(end);
         let next = buffer.push_point_copied(*to);
         buffer.push(" ");
         buffer.push_copied(&kept);
-        buffer.push_line_name();
-        if text.extend_from_slice(buffer.as_slice()).is_err() {
+        buffer.push_copied(&name);
+        let Ok(()) = text.extend_from_slice(buffer.as_slice()) else {
             return written;
-        }
+        };
         kept = next;
         written += 1;
     }
     written
 }
 
-/// The least number of bytes of a text whose lines are written by blocks.
-const MANY: usize = 8;
-
-/// Appends a line for each byte of a text, as `write_point_lines` does.
-fn write_char_lines(
-    buffer: &mut BackwardBuffer,
-    text: &mut Vec<u8>,
-    set: CharSet,
-    codes: &[u8],
-) -> usize
-    requires space { length buffer.old + 21 ≤ line_limit }
-    ensures count { result ≤ length codes.now }
-    ensures text { text.new.items ≡ text.old.items ++ flat_map (λ code. text_byte_front set code ++ buffer.old) (take result codes.now) }
-    ensures memory { NeedsLines (length codes.now) text.old text.new result }
-{
-    if codes.len() < MANY {
-        return write_few(buffer, text, set, codes);
-    }
-    write_many(buffer, text, set, codes)
-}
-
 /// Appends a line for each byte of a text, the first with these attributes, as `write_point_lines` does.
 fn write_text_lines(
-    buffer: &mut BackwardBuffer,
+    buffer: &mut Buffer,
     text: &mut Vec<u8>,
     set: CharSet,
     codes: &[u8],
@@ -274,12 +217,12 @@ fn write_text_lines(
     buffer.push_pen(hand.pen);
     buffer.push(" pen=");
     buffer.push_text_byte_front(set, *first);
-    if text.extend_from_slice(buffer.as_slice()).is_err() {
+    let Ok(()) = text.extend_from_slice(buffer.as_slice()) else {
         return 0;
-    }
+    };
     buffer.keep_last(end);
     buffer.push(" pen=after");
-    write_char_lines(buffer, text, set, others) + 1
+    write_many(buffer, text, set, others) + 1
 }
 
 /// Returns the pen of the entry at an index of a text that begins at this pen.
@@ -297,7 +240,7 @@ fn pen_at(pen: Pen, index: usize) -> Pen
 /// if memory runs out.
 #[inline(always)]
 pub(crate) fn write_batch(
-    buffer: &mut BackwardBuffer,
+    buffer: &mut Buffer,
     text: &mut Vec<u8>,
     batch: &Batch,
     first: usize,
@@ -310,21 +253,21 @@ pub(crate) fn write_batch(
 {
     match batch {
         Batch::Points { points, drawing } => {
-            buffer.clear();
-            buffer.push("\n");
-            buffer.push_point_end(drawing.pel, &drawing.colour);
-            write_point_lines(buffer, text, slice_part(points, first, count))
+            write_point_lines(buffer, text, slice_part(points, first, count), drawing)
         }
         Batch::Lines {
             from,
             points,
             drawing,
         } => {
-            buffer.clear();
-            buffer.push("\n");
-            buffer.push_ink_part(&drawing.ink());
             let from = line_start(*from, points, first);
-            write_line_lines(buffer, text, from, slice_part(points, first, count))
+            write_line_lines(
+                buffer,
+                text,
+                from,
+                slice_part(points, first, count),
+                drawing,
+            )
         }
         Batch::Text {
             set,

@@ -1,6 +1,6 @@
 //! Blocks of lines of characters, which differ only in the digits of their codes.
-ghost use Rattle.std.specs.Prelude.{◌≡◌, ◌+◌, ◌*◌, ◌≤◌, ◌++◌, All, drop, length, take};
-ghost use Rattle.nap_lines.specs.Blocks.{patched, recoded, repeated};
+ghost use Rattle.std.specs.Prelude.{◌≡◌, ◌+◌, ◌*◌, ◌≤◌, All, drop, length, take};
+ghost use Rattle.nap_lines.specs.Blocks.{filled, patched, recoded};
 ghost use Rattle.nap_lines.specs.Lines.{code_text};
 
 use crate::backward_buffer::digit;
@@ -39,7 +39,8 @@ fn put_code(block: &mut [u8], at: usize, code: u8)
 /// Fills the beginning of a block with `count` copies of a line.
 pub(crate) fn fill_lines(block: &mut [u8], line: &[u8], count: usize)
     requires within { count * length line.now ≤ length block.old }
-    ensures { block.new ≡ repeated count line.now ++ drop (count * length line.now) block.old }
+    ensures within { count * length line.now ≤ length block.old }
+    ensures block { block.new ≡ filled count line.now block.old }
 {
     let size = line.len();
     for i in 0..count {
@@ -55,7 +56,7 @@ pub(crate) fn recode_lines(block: &mut [u8], size: usize, place: usize, codes: &
     requires within { length codes.now * size ≤ length block.old }
     ensures count { result ≤ length codes.now }
     ensures characters { All (λ code. 0x20 ≤ code) (take result codes.now) }
-    ensures block { block.new ≡ recoded size place (take result codes.now) block.old }
+    ensures block { block.new ≡ recoded size place codes.now result block.old }
 {
     for i in 0..codes.len() {
         let code = codes[i];

@@ -1,13 +1,13 @@
 //! The fields of a line, each prepended to what is there (PROFILE.md, Lines of list).
-ghost use Rattle.std.specs.Prelude.{◌≡◌, ◌+◌, ◌*◌, ◌≤◌, [], ◌∷◌, ◌++◌, codes, decimal, length};
-ghost use Rattle.nap_lines.specs.Lines.{point_text, points_text, move_text, grb_text, colour_text, pen_text, texture_text, mask_size_text, ink_text, size_text, flag_text, flags_text, look_text, hand_text, fill_text, set_text, step_text, area_text, mark_text, cursor_text, mask_text};
+ghost use Rattle.std.specs.Prelude.{◌≡◌, ◌+◌, ◌*◌, ◌≤◌, ◌++◌, codes, decimal, length};
+ghost use Rattle.nap_lines.specs.Lines.{point_text, points_text, move_text, grb_text, colour_text, pen_text, size_text, flag_text, look_text, hand_text, fill_text};
 ghost use Rattle.std.specs.Str.{IsUtf8};
 ghost use Rattle.nap_lines.specs.Batches.{hand_text_without_pen};
-ghost use Rattle.nap_lines.specs.Writing.{line_limit};
+ghost use Rattle.nap_lines.specs.Writing.{Pushes, line_limit};
 
 use crate::backward_buffer::{BackwardBuffer, CopiedText};
-use nap_codes::{CharSet, CursorKind, Mask, Size, TextStep};
-use nap_list::{Area, CharSize, Colour, Hand, Ink, Origin, Pen, Preset, TextLook, Texture};
+use nap_codes::Size;
+use nap_list::{CharSize, Colour, Hand, Origin, Pen, Preset, TextLook};
 use nap_values::{Addr, Grb, Move, Point, Word};
 
 /// The most points that are prepended at once.
@@ -17,8 +17,7 @@ impl BackwardBuffer {
     /// Prepends the number of a word.
     pub(crate) fn push_word(&mut self, word: Word)
         requires space { length self.old + 10 ≤ line_limit }
-        ensures text { self.new ≡ decimal word ++ self.old }
-        ensures size { length self.new ≤ length self.old + 10 }
+        ensures { Pushes 10 (decimal word) self.old self.new }
     {
         self.push_number(u32::from(word.get()));
     }
@@ -26,8 +25,7 @@ impl BackwardBuffer {
     /// Prepends the number of an address.
     pub(crate) fn push_addr(&mut self, addr: Addr)
         requires space { length self.old + 10 ≤ line_limit }
-        ensures text { self.new ≡ decimal addr ++ self.old }
-        ensures size { length self.new ≤ length self.old + 10 }
+        ensures { Pushes 10 (decimal addr) self.old self.new }
     {
         self.push_number(addr.get());
     }
@@ -75,8 +73,7 @@ impl BackwardBuffer {
     /// Prepends a displacement or a size.
     pub(crate) fn push_displacement(&mut self, size: Move)
         requires space { length self.old + 23 ≤ line_limit }
-        ensures text { self.new ≡ move_text size ++ self.old }
-        ensures size { length self.new ≤ length self.old + 23 }
+        ensures { Pushes 23 (move_text size) self.old self.new }
     {
         self.push_signed(size.y());
         self.push(",");
@@ -86,8 +83,7 @@ impl BackwardBuffer {
     /// Prepends the components of a colour.
     pub(crate) fn push_grb(&mut self, grb: Grb)
         requires space { length self.old + 32 ≤ line_limit }
-        ensures text { self.new ≡ grb_text grb ++ self.old }
-        ensures size { length self.new ≤ length self.old + 32 }
+        ensures { Pushes 32 (grb_text grb) self.old self.new }
     {
         self.push_number(u32::from(grb.b()));
         self.push(",");
@@ -99,8 +95,7 @@ impl BackwardBuffer {
     /// Prepends a colour.
     pub(crate) fn push_colour(&mut self, colour: &Colour)
         requires space { length self.old + 39 ≤ line_limit }
-        ensures text { self.new ≡ colour_text colour.now ++ self.old }
-        ensures size { length self.new ≤ length self.old + 39 }
+        ensures { Pushes 39 (colour_text colour.now) self.old self.new }
     {
         match colour {
             Colour::Own(Origin::AtStart) => self.push("own-start"),
@@ -127,8 +122,7 @@ impl BackwardBuffer {
     /// Prepends the field `colour=`, which ends the line of an entry.
     pub(crate) fn push_colour_field(&mut self, colour: &Colour)
         requires space { length self.old + 47 ≤ line_limit }
-        ensures text { self.new ≡ codes " colour=" ++ colour_text colour.now ++ self.old }
-        ensures size { length self.new ≤ length self.old + 47 }
+        ensures { Pushes 47 (codes " colour=" ++ colour_text colour.now) self.old self.new }
     {
         self.push_colour(colour);
         self.push(" colour=");
@@ -137,8 +131,7 @@ impl BackwardBuffer {
     /// Prepends a pen.
     pub(crate) fn push_pen(&mut self, pen: Pen)
         requires space { length self.old + 21 ≤ line_limit }
-        ensures text { self.new ≡ pen_text pen ++ self.old }
-        ensures size { length self.new ≤ length self.old + 21 }
+        ensures { Pushes 21 (pen_text pen) self.old self.new }
     {
         match pen {
             Pen::Start => self.push("start"),
@@ -147,40 +140,10 @@ impl BackwardBuffer {
         }
     }
 
-    /// Prepends a texture.
-    pub(crate) fn push_texture(&mut self, texture: Texture)
-        requires space { length self.old + 34 ≤ line_limit }
-        ensures text { self.new ≡ texture_text texture ++ self.old }
-        ensures size { length self.new ≤ length self.old + 34 }
-    {
-        match texture.mask {
-            None => self.push("/none"),
-            Some(size) => {
-                self.push_displacement(size);
-                self.push("/");
-            }
-        }
-        self.push_word(texture.word);
-    }
-
-    /// Prepends the part INK: pel, colour and texture.
-    pub(crate) fn push_ink(&mut self, ink: &Ink)
-        requires space { length self.old + 117 ≤ line_limit }
-        ensures text { self.new ≡ ink_text ink.now ++ self.old }
-        ensures size { length self.new ≤ length self.old + 117 }
-    {
-        self.push_texture(ink.texture);
-        self.push(" texture=");
-        self.push_colour_field(&ink.colour);
-        self.push_displacement(ink.pel);
-        self.push("pel=");
-    }
-
     /// Prepends the size of a character.
     pub(crate) fn push_char_size(&mut self, size: &CharSize)
         requires space { length self.old + 23 ≤ line_limit }
-        ensures text { self.new ≡ size_text size.now ++ self.old }
-        ensures size { length self.new ≤ length self.old + 23 }
+        ensures { Pushes 23 (size_text size.now) self.old self.new }
     {
         match size {
             CharSize::Named(Size::Small) => self.push("small"),
@@ -192,25 +155,15 @@ impl BackwardBuffer {
         }
     }
 
-    /// Prepends the four flags of the text attributes.
-    pub(crate) fn push_flags(&mut self, look: &TextLook)
-        requires space { length self.old + 4 ≤ line_limit }
-        ensures text { self.new ≡ flags_text look.now ++ self.old }
-        ensures size { length self.new ≡ length self.old + 4 }
+    /// Prepends the text attributes.
+    pub(crate) fn push_look(&mut self, look: &TextLook)
+        requires space { length self.old + 50 ≤ line_limit }
+        ensures { Pushes 50 (look_text look.now) self.old self.new }
     {
         self.push(flag(look.scroll, "s"));
         self.push(flag(look.wrap, "w"));
         self.push(flag(look.underline, "u"));
         self.push(flag(look.reverse, "r"));
-    }
-
-    /// Prepends the text attributes.
-    pub(crate) fn push_look(&mut self, look: &TextLook)
-        requires space { length self.old + 50 ≤ line_limit }
-        ensures text { self.new ≡ look_text look.now ++ self.old }
-        ensures size { length self.new ≤ length self.old + 50 }
-    {
-        self.push_flags(look);
         self.push("/");
         self.push_char_size(&look.size);
         self.push("/");
@@ -222,8 +175,7 @@ impl BackwardBuffer {
     /// Prepends the part HAND without its pen.
     pub(crate) fn push_hand_without_pen(&mut self, hand: &Hand)
         requires space { length self.old + 103 ≤ line_limit }
-        ensures text { self.new ≡ hand_text_without_pen hand.now ++ self.old }
-        ensures size { length self.new ≤ length self.old + 103 }
+        ensures { Pushes 103 (hand_text_without_pen hand.now) self.old self.new }
     {
         self.push_look(&hand.text);
         self.push(" text=");
@@ -233,91 +185,11 @@ impl BackwardBuffer {
     /// Prepends the part HAND: pen, colour and text attributes.
     pub(crate) fn push_hand(&mut self, hand: &Hand)
         requires space { length self.old + 128 ≤ line_limit }
-        ensures text { self.new ≡ hand_text hand.now ++ self.old }
-        ensures size { length self.new ≤ length self.old + 128 }
+        ensures { Pushes 128 (hand_text hand.now) self.old self.new }
     {
         self.push_hand_without_pen(hand);
         self.push_pen(hand.pen);
         self.push("pen=");
-    }
-
-    /// Prepends the name of a character set.
-    pub(crate) fn push_char_set(&mut self, set: CharSet)
-        requires space { length self.old + 13 ≤ line_limit }
-        ensures text { self.new ≡ set_text set ++ self.old }
-        ensures size { length self.new ≤ length self.old + 13 }
-    {
-        match set {
-            CharSet::Primary => self.push("primary"),
-            CharSet::Supplementary => self.push("supplementary"),
-            CharSet::Mosaic => self.push("mosaic"),
-            CharSet::Drcs => self.push("drcs"),
-        }
-    }
-
-    /// Prepends the name of a format effector, with both bytes of APS.
-    pub(crate) fn push_text_step(&mut self, step: TextStep)
-        requires space { length self.old + 9 ≤ line_limit }
-        ensures text { self.new ≡ step_text step ++ self.old }
-        ensures size { length self.new ≤ length self.old + 9 }
-    {
-        match step {
-            TextStep::Apb => self.push("APB"),
-            TextStep::Apf => self.push("APF"),
-            TextStep::Apd => self.push("APD"),
-            TextStep::Apu => self.push("APU"),
-            TextStep::Apr => self.push("APR"),
-            TextStep::Aph => self.push("APH"),
-            TextStep::Aps(row, column) => {
-                self.push_code(column);
-                self.push(" ");
-                self.push_code(row);
-                self.push("APS ");
-            }
-        }
-    }
-
-    /// Prepends an area.
-    pub(crate) fn push_area(&mut self, area: Area)
-        requires space { length self.old + 43 ≤ line_limit }
-        ensures text { self.new ≡ area_text area ++ self.old }
-        ensures size { length self.new ≤ length self.old + 43 }
-    {
-        match area {
-            Area::Whole => self.push("whole"),
-            Area::Part { from, to } => {
-                self.push_point(to);
-                self.push(" ");
-                self.push_point(from);
-            }
-        }
-    }
-
-    /// Prepends the name of a state of the cursor.
-    pub(crate) fn push_cursor_kind(&mut self, kind: CursorKind)
-        requires space { length self.old + 6 ≤ line_limit }
-        ensures text { self.new ≡ cursor_text kind ++ self.old }
-        ensures size { length self.new ≤ length self.old + 6 }
-    {
-        match kind {
-            CursorKind::Flash => self.push("flash"),
-            CursorKind::Steady => self.push("steady"),
-            CursorKind::Off => self.push("off"),
-        }
-    }
-
-    /// Prepends the letter of a mask.
-    pub(crate) fn push_mask_letter(&mut self, mask: Mask)
-        requires space { length self.old + 1 ≤ line_limit }
-        ensures text { self.new ≡ mask_text mask ++ self.old }
-        ensures size { length self.new ≡ length self.old + 1 }
-    {
-        match mask {
-            Mask::A => self.push("A"),
-            Mask::B => self.push("B"),
-            Mask::C => self.push("C"),
-            Mask::D => self.push("D"),
-        }
     }
 }
 
@@ -336,12 +208,4 @@ pub(crate) fn fill_name(filled: bool) -> &'static str
     ensures size { length result.now ≤ 8 }
 {
     if filled { "FILLED" } else { "OUTLINED" }
-}
-
-/// Returns the part of a name that says whether blinking starts or stops.
-pub(crate) fn mark_name(on: bool) -> &'static str
-    ensures text { result.now ≡ mark_text on }
-    ensures size { length result.now ≤ 5 }
-{
-    if on { "START" } else { "STOP" }
 }

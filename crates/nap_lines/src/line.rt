@@ -1,19 +1,21 @@
 //! The line of an entry (PROFILE.md, Lines of list).
-ghost use Rattle.std.specs.Prelude.{◌≡◌, ◌+◌, ◌*◌, ◌≤◌, [], ◌∷◌, ◌++◌, IfOk, OnOk, OnErr, codes, length, string_bytes, if◌then◌else◌};
+ghost use Rattle.std.specs.Prelude.{◌≡◌, ◌+◌, ◌*◌, ◌≤◌, [], ◌∷◌, ◌++◌, IfOk, OnOk, OnErr, codes, length, string_bytes};
 ghost use Rattle.std.specs.Str.{IsUtf8};
 ghost use Rattle.nap_lines.specs.Lines.{line, points_text, fill_text, ink_text};
-ghost use Rattle.nap_lines.specs.Parts.{first_part, last_part};
-ghost use Rattle.nap_lines.specs.Writing.{AppendsText, NeedsUpTo, line_limit, shape_size};
+ghost use Rattle.nap_lines.specs.Parts.{closing_points, first_part, last_part, shape_name};
+ghost use Rattle.nap_lines.specs.Writing.{AppendsText, NeedsUpTo, Pushes, line_limit, shape_size};
 ghost use Rattle.nap_list.specs.Shapes.{entry_of_shape, shape_points};
-ghost use Rattle.nap_lines.specs.Shapes.{closing_points, shape_name};
 
-use crate::backward_buffer::BackwardBuffer;
+use crate::backward_buffer::{BackwardBuffer, Buffer};
 use crate::block::slice_part;
-use crate::field::{POINTS_AT_ONCE, fill_name, mark_name};
+use crate::field::{POINTS_AT_ONCE, fill_name};
 use nap_codes::{CharSet, CursorKind, Mask, TextStep};
 use nap_list::{Area, Colour, Entry, Hand, Ink, Pen, Points, Shape, ShapeKind};
 use nap_values::{Addr, Grb, Move, Point, Word};
 use std::alloc::{AllocError, Global};
+
+/// Whether memory was enough.
+type Written = Result<(), AllocError>;
 
 // Each method requires the space that its line may take.
 impl BackwardBuffer {
@@ -28,11 +30,20 @@ impl BackwardBuffer {
     // Prepends a space and the part INK of a Line, a Rect or a shape.
     pub(crate) fn push_ink_part(&mut self, ink: &Ink)
         requires { length self.old + 118 ≤ line_limit }
-        ensures text { self.new ≡ codes " " ++ ink_text ink.now ++ self.old }
-        ensures size { length self.new ≤ length self.old + 118 }
+        ensures { Pushes 118 (codes " " ++ ink_text ink.now) self.old self.new }
     {
-        self.push_ink(ink);
-        self.push(" ");
+        match ink.texture.mask {
+            None => self.push("/none"),
+            Some(size) => {
+                self.push_displacement(size);
+                self.push("/");
+            }
+        }
+        self.push_word(ink.texture.word);
+        self.push(" texture=");
+        self.push_colour_field(&ink.colour);
+        self.push_displacement(ink.pel);
+        self.push(" pel=");
     }
 
     fn push_line_line(&mut self, from: Point, to: Point, ink: &Ink)
@@ -120,7 +131,11 @@ impl BackwardBuffer {
         ensures { self.new ≡ line (Entry.BlinkMark on colour.now) ++ self.old }
     {
         self.push_colour_field(colour);
-        self.push(mark_name(on));
+        if on {
+            self.push("START");
+        } else {
+            self.push("STOP");
+        }
         self.push("BLINK-");
     }
 
@@ -136,7 +151,11 @@ impl BackwardBuffer {
         requires { length self.old + 13 ≤ line_limit }
         ensures { self.new ≡ line (Entry.Cursor kind) ++ self.old }
     {
-        self.push_cursor_kind(kind);
+        match kind {
+            CursorKind::Flash => self.push("flash"),
+            CursorKind::Steady => self.push("steady"),
+            CursorKind::Off => self.push("off"),
+        }
         self.push("CURSOR ");
     }
 
@@ -146,7 +165,14 @@ impl BackwardBuffer {
     {
         self.push_pen(pen);
         self.push(" pen=");
-        self.push_area(area);
+        match area {
+            Area::Whole => self.push("whole"),
+            Area::Part { from, to } => {
+                self.push_point(to);
+                self.push(" ");
+                self.push_point(from);
+            }
+        }
         self.push("FIELD ");
     }
 
@@ -182,7 +208,12 @@ impl BackwardBuffer {
         requires { length self.old + 6 ≤ line_limit }
         ensures { self.new ≡ line (Entry.MaskStart mask) ++ self.old }
     {
-        self.push_mask_letter(mask);
+        match mask {
+            Mask::A => self.push("A"),
+            Mask::B => self.push("B"),
+            Mask::C => self.push("C"),
+            Mask::D => self.push("D"),
+        }
         self.push("MASK ");
     }
 
@@ -229,11 +260,7 @@ impl BackwardBuffer {
 }
 
 // Appends points, each after a space.
-pub(crate) fn write_points(
-    buffer: &mut BackwardBuffer,
-    text: &mut Vec<u8>,
-    points: &[Point],
-) -> Result<(), AllocError>
+fn write_points(buffer: &mut Buffer, text: &mut Vec<u8>, points: &[Point]) -> Written
     ensures appends { AppendsText text.old.items (points_text points.now) text.new.items result }
     ensures memory { NeedsUpTo (16 * length points.now) text.old text.new result }
 {
@@ -249,12 +276,7 @@ pub(crate) fn write_points(
 }
 
 // Appends the name of a shape.
-pub(crate) fn write_shape_name(
-    buffer: &mut BackwardBuffer,
-    text: &mut Vec<u8>,
-    name: &str,
-    filled: bool,
-) -> Result<(), AllocError>
+fn write_shape_name(buffer: &mut Buffer, text: &mut Vec<u8>, name: &str, filled: bool) -> Written
     requires { length name.now ≤ 5 }
     ensures appends { AppendsText text.old.items (name.now ++ fill_text filled) text.new.items result }
     ensures memory { NeedsUpTo 13 text.old text.new result }
@@ -268,12 +290,12 @@ pub(crate) fn write_shape_name(
 
 // Appends the name and the points of a shape.
 fn write_shape(
-    buffer: &mut BackwardBuffer,
+    buffer: &mut Buffer,
     text: &mut Vec<u8>,
     name: &str,
     filled: bool,
     points: &Points,
-) -> Result<(), AllocError>
+) -> Written
     requires { length name.now ≤ 5 }
     ensures appends { AppendsText text.old.items (name.now ++ fill_text filled ++ points_text points.now) text.new.items result }
     ensures memory { NeedsUpTo (13 + 16 * length points.now) text.old text.new result }
@@ -283,11 +305,7 @@ fn write_shape(
 }
 
 // Appends the name and the points of a shape, and nothing for any other entry.
-fn write_first_part(
-    buffer: &mut BackwardBuffer,
-    text: &mut Vec<u8>,
-    entry: &Entry,
-) -> Result<(), AllocError>
+fn write_first_part(buffer: &mut Buffer, text: &mut Vec<u8>, entry: &Entry) -> Written
     ensures appends { AppendsText text.old.items (first_part entry.now) text.new.items result }
     ensures memory { NeedsUpTo (13 + 16 * shape_size entry.now) text.old text.new result }
 {
@@ -299,12 +317,7 @@ fn write_first_part(
 }
 
 // Appends the line of an entry and `end`. The buffer's contents are ignored before, and of no use after.
-fn write_parts(
-    buffer: &mut BackwardBuffer,
-    text: &mut Vec<u8>,
-    entry: &Entry,
-    end: &str,
-) -> Result<(), AllocError>
+fn write_parts(buffer: &mut Buffer, text: &mut Vec<u8>, entry: &Entry, end: &str) -> Written
     requires { length end.now ≤ 1 }
     ensures appends { AppendsText text.old.items (line entry.now ++ end.now) text.new.items result }
     ensures memory { NeedsUpTo (269 + 16 * shape_size entry.now) text.old text.new result }
@@ -319,11 +332,11 @@ fn write_parts(
 
 /// Appends the line of an entry and `end` to the text, using a buffer whose contents are ignored.
 pub(crate) fn write_line(
-    buffer: &mut BackwardBuffer,
+    buffer: &mut Buffer,
     text: &mut Vec<u8>,
     entry: &Entry,
     end: &str,
-) -> Result<(), AllocError>
+) -> Written
     requires { length end.now ≤ 1 }
     ensures ok { OnOk result (text.new.items ≡ text.old.items ++ line entry.now ++ end.now) }
     ensures err { OnErr result (text.new.items ≡ text.old.items) }
@@ -366,33 +379,19 @@ fn shape_name(kind: ShapeKind) -> &'static str
     }
 }
 
-/// Whether a shape returns to its start: an arc of one displacement, a circle.
-fn returns_to_start(shape: &Shape) -> bool
-    ensures { closing_points shape.now.kind shape.now.from shape.now.others.now ≡ (if result then shape.now.from ∷ [] else []) }
-{
-    match shape.kind {
-        ShapeKind::Arc => shape.others.len() == 1,
-        ShapeKind::Poly => false,
-    }
-}
-
-/// Appends the start of a shape again, if it returns there.
-fn write_closing(
-    buffer: &mut BackwardBuffer,
-    text: &mut Vec<u8>,
-    shape: &Shape,
-) -> Result<(), AllocError>
+/// Appends the start of a shape again, if it returns there: an arc of one displacement, a circle.
+fn write_closing(buffer: &mut Buffer, text: &mut Vec<u8>, shape: &Shape) -> Written
     ensures appends { AppendsText text.old.items (points_text (closing_points shape.now.kind shape.now.from shape.now.others.now)) text.new.items result }
     ensures memory { NeedsUpTo 16 text.old text.new result }
 {
-    if !returns_to_start(shape) {
-        return Ok(());
+    match shape.kind {
+        ShapeKind::Arc if shape.others.len() == 1 => write_points(buffer, text, &[shape.from]),
+        _ => Ok(()),
     }
-    write_points(buffer, text, &[shape.from])
 }
 
 /// Appends the part INK of a shape, and LF.
-fn write_ink(buffer: &mut BackwardBuffer, text: &mut Vec<u8>, ink: &Ink) -> Result<(), AllocError>
+fn write_ink(buffer: &mut Buffer, text: &mut Vec<u8>, ink: &Ink) -> Written
     ensures appends { AppendsText text.old.items (codes " " ++ ink_text ink.now ++ 10 ∷ []) text.new.items result }
     ensures memory { NeedsUpTo 256 text.old text.new result }
 {
@@ -404,11 +403,7 @@ fn write_ink(buffer: &mut BackwardBuffer, text: &mut Vec<u8>, ink: &Ink) -> Resu
 }
 
 /// Appends the line of a shape's entry, and LF.
-fn write_shape_parts(
-    buffer: &mut BackwardBuffer,
-    text: &mut Vec<u8>,
-    shape: &Shape,
-) -> Result<(), AllocError>
+fn write_shape_parts(buffer: &mut Buffer, text: &mut Vec<u8>, shape: &Shape) -> Written
     ensures appends { AppendsText text.old.items (line (entry_of_shape shape.now) ++ 10 ∷ []) text.new.items result }
     ensures memory { NeedsUpTo (16 * length shape.now.others.now + 301) text.old text.new result }
 {
@@ -420,11 +415,7 @@ fn write_shape_parts(
 }
 
 /// Appends the line of a shape's entry and LF to the text, using a buffer whose contents are ignored.
-pub(crate) fn write_shape_line(
-    buffer: &mut BackwardBuffer,
-    text: &mut Vec<u8>,
-    shape: &Shape,
-) -> Result<(), AllocError>
+pub(crate) fn write_shape_line(buffer: &mut Buffer, text: &mut Vec<u8>, shape: &Shape) -> Written
     ensures ok { OnOk result (text.new.items ≡ text.old.items ++ (line (entry_of_shape shape.now) ++ 10 ∷ [])) }
     ensures err { OnErr result (text.new.items ≡ text.old.items) }
     ensures memory { NeedsUpTo (16 * length shape.now.others.now + 301) text.old text.new result }

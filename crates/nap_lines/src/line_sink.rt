@@ -31,11 +31,7 @@ impl LineSink {
     pub fn new(alloc: Global) -> LineSink
         ensures { result ≡ record { text = []; state = start } }
     {
-        LineSink {
-            buffer: BackwardBuffer::new(),
-            text: Vec::new(alloc),
-            state: GhostState::start(),
-        }
+        LineSink::over(Vec::new(alloc))
     }
 
     /// Makes a sink that has taken nothing, and appends its lines to this text.

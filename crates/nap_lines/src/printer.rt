@@ -4,7 +4,7 @@ ghost use Rattle.nap_list.specs.Batches.{batch_entries};
 ghost use Rattle.nap_list.specs.State.{start};
 ghost use Rattle.nap_lines.specs.Printing.{BrokeLines, Closes, PrintsLines, TookLines, line_memory, taken_count, SendsBuffered};
 ghost use Rattle.nap_lines.specs.PrintingLaws.{took_broke, took_more, took_none, wants_more};
-ghost use Rattle.nap_list.specs.Sending.{sending};
+ghost use Rattle.nap_list.specs.Sending.{SendsBytes, sending};
 
 use crate::backward_buffer::BackwardBuffer;
 use crate::batch::write_batch;
@@ -18,30 +18,17 @@ use std::marker::Model;
 /// The least number of bytes of lines that are sent, as many as a pipe takes at once.
 const SEND_SIZE: usize = 65_536;
 
-/// Sends the buffered bytes, and keeps the memory.
+/// Sends lines, as `send_all` does. It isn't inlined where lines are made.
 #[inline(never)]
-pub(crate) fn send_buffered<O: Outlet>(
-    outlet: &mut O,
-    written: &mut u64,
-    buffered: &mut Vec<u8>,
-) -> Result<(), DeviceFault>
-    ensures sent { SendsBuffered (sending O.Outlet outlet.old written.old) buffered.old.items buffered.new.items (sending O.Outlet outlet.new written.new) result }
-    ensures memory { vec_capacity buffered.new ≡ vec_capacity buffered.old }
-    ensures none { OnOk result (buffered.new.items ≡ []) }
-    ensures few { OnOk result (vec_len buffered.new ≡ 0) }
+fn send_lines<O: Outlet>(outlet: &mut O, written: &mut u64, lines: &[u8]) -> Result<(), usize>
+    ensures { SendsBytes O.Outlet outlet.old written.old lines.now outlet.new written.new result }
 {
-    match send_all(outlet, written, buffered.as_slice()) {
-        Ok(()) => {
-            buffered.clear();
-            Ok(())
-        }
-        Err(_) => Err(DeviceFault),
-    }
+    send_all(outlet, written, lines)
 }
 
 /// Sends the buffered bytes if they are enough for a write, and keeps the memory.
 #[inline(always)]
-pub(crate) fn send_if_large<O: Outlet>(
+fn send_if_large<O: Outlet>(
     outlet: &mut O,
     written: &mut u64,
     buffered: &mut Vec<u8>,
@@ -53,7 +40,13 @@ pub(crate) fn send_if_large<O: Outlet>(
     if buffered.len() < SEND_SIZE {
         return Ok(());
     }
-    send_buffered(outlet, written, buffered)
+    match send_lines(outlet, written, buffered.as_slice()) {
+        Ok(()) => {
+            buffered.clear();
+            Ok(())
+        }
+        Err(_) => Err(DeviceFault),
+    }
 }
 
 /// The greatest number of entries of a batch whose lines are made at once.
@@ -160,8 +153,9 @@ impl<O: Outlet + Drop> LinePrinter<O> {
         if self.failed() {
             return;
         }
+        let lines = self.buffered.as_slice();
         // The outlet keeps the failure.
-        let _ = send_buffered(&mut self.outlet, &mut self.written, &mut self.buffered);
+        let _ = send_lines(&mut self.outlet, &mut self.written, lines);
     }
 
     /// Sends the buffered lines. Returns the outlet, unflushed, and the number of bytes that it took from this sink,
@@ -171,12 +165,7 @@ impl<O: Outlet + Drop> LinePrinter<O> {
     {
         let mut sink = self;
         sink.send_rest();
-        let LinePrinter {
-            outlet,
-            written,
-            ..
-        } = sink;
-        (outlet, written)
+        sink.stop()
     }
 
     /// Drops the buffered lines. Returns the outlet, and the number of bytes that it took from this sink, saturating at

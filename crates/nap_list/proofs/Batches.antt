@@ -1,4 +1,4 @@
-use Rattle.nap_list.proofs.Common.{AreCurrent, Base, Batch, BatchIsCurrent, CharSet, Code, Colour, Coordinates, Drawing, EachIsCurrent, Entry, Hand, IsCodeInRange, List, None, Option, Pen, Some, State, StepMade, TextEntriesAreWellMade, TextLeaves, TextStep, WellMade, [], after, ap, arith, attributes, base_after, batch_entries, code_ranges, drop, drop-drop, drop-nil, format_effector, format_effector_front, get_or, hand_of, last_after, last_char_of_text, last_point, length, length-drop, line_entry, lines_rest, map, point_entry, points_rest, polyline_entries, refl, start, start_drawing, start_sets, subst, suc, sym, take, text_entries_in, text_entry, text_entry_as, text_entry_on, walk, with_attributes, with_pen, with_pen_and_last, zero, ℕ, ⊤, ◌++◌, ◌+◌, ◌-◌, ◌<◌, ◌∙◌, ◌∷◌, ◌≡◌, ◌≤◌}
+use Rattle.nap_list.proofs.Common.{AreCurrent, Base, Batch, BatchIsCurrent, CharSet, Code, Colour, Coordinates, Drawing, EachIsCurrent, Entry, Hand, IsCodeInRange, List, None, Option, Pen, Some, State, StepMade, TextEntriesAreWellMade, TextLeaves, TextStep, WellMade, [], after, ap, arith, attributes, base_after, batch_entries, code_ranges, drop, drop-drop, drop-nil, format_effector, format_effector_front, get_or, hand_of, last_point, length, length-drop, line_entry, lines_rest, map, point_entry, points_rest, polyline_entries, refl, start, start_sets, subst, suc, sym, take, text_entries_in, text_entry, text_entry_as, text_entry_on, walk, with_attributes, with_pen, with_pen_and_last, zero, ℕ, ⊤, ◌++◌, ◌+◌, ◌<◌, ◌∙◌, ◌∷◌, ◌≡◌}
 use Rattle.nap_list.specs.declared.attribute.Pen.TheVariants.{After}
 use Rattle.nap_list.proofs.Agreement.{current_changes_nothing}
 
@@ -7,8 +7,7 @@ use Rattle.nap_list.proofs.Agreement.{current_changes_nothing}
 
 -- a direct colour that an entry held is current afterwards
 colour_stays : (base : Base) (colour : Colour) → base_after (base_after base (Some colour)) (Some colour) ≡ base_after base (Some colour)
-colour_stays base (Colour.Direct grb) = refl
-colour_stays base _ = refl
+colour_stays base colour = grind arith
 
 -- after the first entry, the attributes of the second are current
 abbrev Next : Entry → Entry → Type 0
@@ -24,14 +23,14 @@ points_chain : (First : Entry → Type 0) (d : Drawing) → ((p : Coordinates) �
 unfolding Chain
 points_chain First d first [] = tt
 points_chain First d first (p ∷ ps) =
-    let next : (q : Coordinates) → Next (point_entry d p) (point_entry d q) = λ q s. record { holds = record { pen = tt; pel = refl; colour = refl; texture = tt; text = tt }; base = colour_stays s.drawing.base d.colour } in
+    let next : (q : Coordinates) → Next (point_entry d p) (point_entry d q) = λ q s. search (colour_stays s.drawing.base d.colour) in
     (first p, λ s. refl, points_chain (Next (point_entry d p)) d next ps)
 
 lines_chain : (First : Entry → Type 0) (d : Drawing) (from : Coordinates) → ((p : Coordinates) → First (line_entry d from p)) → (points : List Coordinates) → Chain First (polyline_entries d from points)
 unfolding Chain polyline_entries
 lines_chain First d from first [] = tt
 lines_chain First d from first (p ∷ ps) =
-    let next : (q : Coordinates) → Next (line_entry d from p) (line_entry d p q) = λ q s. record { holds = record { pen = tt; pel = refl; colour = refl; texture = refl; text = tt }; base = colour_stays s.drawing.base d.colour } in
+    let next : (q : Coordinates) → Next (line_entry d from p) (line_entry d p q) = λ q s. search (colour_stays s.drawing.base d.colour) in
     (first p, λ s. refl, lines_chain (Next (line_entry d from p)) d p next ps)
 
 -- a character or a move after another
@@ -39,26 +38,13 @@ next_typed : (set : CharSet) (hand : Hand) (a b : ℕ) → Next (text_entry set 
 next_typed set hand a b s = by (format_effector a) (format_effector b)
   where
     by : (first second : Option TextStep) → AreCurrent (attributes (text_entry_as second set (record hand { pen = After }) b)) (after s (text_entry_as first set hand a)).drawing
-    by (Some step) (Some move) = record { holds = record { pen = refl; pel = tt; colour = refl; texture = tt; text = refl }; base = colour_stays s.drawing.base hand.colour }
-    by (Some step) None = record { holds = record { pen = refl; pel = tt; colour = refl; texture = tt; text = refl }; base = colour_stays s.drawing.base hand.colour }
-    by None (Some move) = record { holds = record { pen = refl; pel = tt; colour = refl; texture = tt; text = refl }; base = colour_stays s.drawing.base hand.colour }
-    by None None = record { holds = record { pen = refl; pel = tt; colour = refl; texture = tt; text = refl }; base = colour_stays s.drawing.base hand.colour }
+    by None None = search (colour_stays s.drawing.base hand.colour)
+    by (Some step) None = search (colour_stays s.drawing.base hand.colour)
+    by _ _ = search (colour_stays s.drawing.base hand.colour)
 
 -- the state after one entry of a text
 typed_marks : (set : CharSet) (hand : Hand) (code : ℕ) (s : State) → after s (text_entry set hand code) ≡ with_pen_and_last s (text_entry set hand code) (with_attributes s.drawing (attributes (text_entry set hand code)))
-typed_marks set hand code s = by (format_effector code)
-  where
-    by : (step : Option TextStep) → after s (text_entry_as step set hand code) ≡ with_pen_and_last s (text_entry_as step set hand code) (with_attributes s.drawing (attributes (text_entry_as step set hand code)))
-    by (Some step) = refl
-    by None = refl
-
--- an entry of a text leaves the pen unknown, and the last character if it is one
-pub typed_mark : (set : CharSet) (hand : Hand) (code : ℕ) (s : State) → record s { drawing = with_pen After s.drawing; last = last_char_of_text set code } ≡ with_pen_and_last s (text_entry set hand code) s.drawing
-typed_mark set hand code s = by (format_effector code)
-  where
-    by : (step : Option TextStep) → record s { drawing = with_pen After s.drawing; last = last_after (text_entry_as step set (hand_of start_drawing) code) } ≡ with_pen_and_last s (text_entry_as step set hand code) s.drawing
-    by (Some step) = refl
-    by None = refl
+typed_marks set hand code s = grind arith
 
 -- the entry of a byte of a text is well made: a move of one byte has no bytes of its own
 step_made : (step : TextStep) → IsCodeInRange (Code.Step step) → StepMade step
@@ -97,23 +83,13 @@ batch_is_current b s e es is = chain_is_current (after s e) (Next e) es (λ x ne
 chain_passes : (s : State) (First : Entry → Type 0) (es : List Entry) (m n : ℕ) (x : Entry) (xs : List Entry) → Chain First es → EachIsCurrent s (drop m es) → drop n (drop m es) ≡ x ∷ xs →
     walk s (take (suc n) (drop m es)) ≡ with_pen_and_last s x s.drawing
 unfolding Chain EachIsCurrent walk
-chain_passes s First [] m n x xs chain all_current is = let bad : ⊥ = cc (ap (drop n) (drop-nil {A = Entry} m), drop-nil {A = Entry} n) in absurd bad
+chain_passes s First [] m n x xs chain all_current is = cc (ap (drop n) (drop-nil {A = Entry} m), drop-nil {A = Entry} n)
 chain_passes s First (e ∷ es) (suc m) n x xs chain all_current is = chain_passes s (Next e) es m n x xs chain.2 all_current is
 chain_passes s First (e ∷ es) zero zero x xs chain all_current is =
     let same : e ≡ x = cc in
     rw (← same) (chain.1 s ∙ ap (with_pen_and_last s e) (current_changes_nothing (attributes e) s.drawing all_current.0))
 chain_passes s First (e ∷ es) zero (suc n) x xs chain all_current is =
     chain_passes (after s e) (Next e) es zero n x xs chain.2 all_current.1 is ∙ ap (λ (t : State). with_pen_and_last t x t.drawing) (chain.1 s ∙ ap (with_pen_and_last s e) (current_changes_nothing (attributes e) s.drawing all_current.0))
-
-pub batch_passes : (s t : State) (b : Batch) (m n count : ℕ) → m + n < length (batch_entries b) → EachIsCurrent s (drop m (batch_entries b)) → (1 ≤ count) × (n ≡ count - 1) →
-    ((x : Entry) (xs : List Entry) → drop (m + n) (batch_entries b) ≡ x ∷ xs → t ≡ with_pen_and_last s x s.drawing) → t ≡ walk s (take count (drop m (batch_entries b)))
-batch_passes s t b m n count less all_current further leaves = by (drop (m + n) (batch_entries b)) refl
-  where
-    by : (rest : List Entry) → drop (m + n) (batch_entries b) ≡ rest → t ≡ walk s (take count (drop m (batch_entries b)))
-    by [] is = absurd (omega (arith, less, ap length is, length-drop (m + n) (batch_entries b)))
-    by (x ∷ xs) is =
-        let size : suc n ≡ count = omega arith in
-        leaves x xs is ∙ rw (← size) (sym (chain_passes s (λ e. ⊤) (batch_entries b) m n x xs (batch_chain b) all_current (drop-drop n m (batch_entries b) ∙ is)))
 
 -- the pen that the last of these entries leaves is all that changes, beside the last character
 pub batch_moves : (s : State) (pen : Pen) (b : Batch) (m n count : ℕ) → m + n < length (batch_entries b) → EachIsCurrent s (drop m (batch_entries b)) → suc n ≡ count →
@@ -140,10 +116,9 @@ unfolding walk text_entries_in
 text_leaves s set hand codes front last is = ap (λ (cs : List ℕ). walk s (text_entries_in set hand cs)) is ∙ along s hand front
   where
     again : (s : State) (hand : Hand) (c : ℕ) (first second : Option TextStep) → Again set last s hand c first second
-    again s hand c (Some step) (Some move) current = ap (with_pen_and_last (after s (Entry.TextMove step hand)) (Entry.TextMove move (record hand { pen = After }))) (current_changes_nothing _ _ current)
-    again s hand c (Some step) None current = ap (with_pen_and_last (after s (Entry.TextMove step hand)) (Entry.Char set last (record hand { pen = After }))) (current_changes_nothing _ _ current)
-    again s hand c None (Some move) current = ap (with_pen_and_last (after s (Entry.Char set c hand)) (Entry.TextMove move (record hand { pen = After }))) (current_changes_nothing _ _ current)
     again s hand c None None current = ap (with_pen_and_last (after s (Entry.Char set c hand)) (Entry.Char set last (record hand { pen = After }))) (current_changes_nothing _ _ current)
+    again s hand c (Some step) None current = ap (with_pen_and_last (after s (Entry.TextMove step hand)) (Entry.Char set last (record hand { pen = After }))) (current_changes_nothing _ _ current)
+    again s hand c first second current = ap (with_pen_and_last (after s (text_entry_as first set hand c)) (text_entry_as second set (record hand { pen = After }) last)) (current_changes_nothing _ _ current)
 
     along : (s : State) (hand : Hand) (front : List ℕ) → walk s (text_entries_in set hand (front ++ last ∷ [])) ≡ after s (text_entry set hand last)
     along s hand [] = refl
@@ -177,14 +152,8 @@ text_at b set codes first d n pen c cs is front later cut =
     at : (hand : Hand) (codes : List ℕ) (n : ℕ) → (n ≡ 0 → pen ≡ hand.pen) → (0 < n → pen ≡ After) → drop n codes ≡ c ∷ cs →
         drop n (text_entries_in set hand codes) ≡ text_entry set (record hand { pen = pen }) c ∷ text_entries_in set (record hand { pen = After }) cs
     at hand codes zero front later cut = rw (cut, front refl) refl
-    at hand [] (suc n) front later cut = let bad : ⊥ = cc in absurd bad
+    at hand [] (suc n) front later cut = cc
     at hand (a ∷ rest) (suc n) front later cut = let on = later (omega arith) in at (record hand { pen = After }) rest n (λ _. on) (λ _. on) cut
-
--- the pen and the last character that the first entry of a list leaves
-pub same_mark : (s : State) (list : List Entry) (x e : Entry) (xs es : List Entry) → list ≡ x ∷ xs → list ≡ e ∷ es → with_pen_and_last s x s.drawing ≡ with_pen_and_last s e s.drawing
-same_mark s list x e xs es first second =
-    let same : x ≡ e = cc in
-    ap (λ (e : Entry). with_pen_and_last s e s.drawing) same
 
 -- the pen that the first entry of a list leaves
 pub same_pen : (list : List Entry) (x e : Entry) (xs es : List Entry) → list ≡ x ∷ xs → list ≡ e ∷ es → (after start x).drawing.pen ≡ (after start e).drawing.pen
@@ -195,11 +164,7 @@ same_pen list x e xs es first second =
 -- an entry of a text leaves the pen unknown
 
 typed_pen : (set : CharSet) (hand : Hand) (code : ℕ) → After ≡ (after start (text_entry set hand code)).drawing.pen
-typed_pen set hand code = by (format_effector code)
-  where
-    by : (step : Option TextStep) → After ≡ (after start (text_entry_as step set hand code)).drawing.pen
-    by (Some step) = refl
-    by None = refl
+typed_pen set hand code = grind arith
 
 pub text_pen : (b : Batch) (set : _) (codes : _) (first : Pen) (d : _) (n : ℕ) (e : Entry) (es : List Entry) → b ≡ Batch.Text set codes first d → drop n (batch_entries b) ≡ e ∷ es →
     After ≡ (after start e).drawing.pen
@@ -207,7 +172,7 @@ unfolding text_entries_in
 text_pen b set codes first d n e es is cut = at (record (hand_of d.now) { pen = first }) codes.now n (subst (λ (b : Batch). drop n (batch_entries b) ≡ e ∷ es) is cut)
   where
     at : (hand : Hand) (codes : List ℕ) (n : ℕ) → drop n (text_entries_in set hand codes) ≡ e ∷ es → After ≡ (after start e).drawing.pen
-    at hand [] n cut = let bad : ⊥ = cc (cut, drop-nil {A = Entry} n) in absurd bad
+    at hand [] n cut = cc (cut, drop-nil {A = Entry} n)
     at hand (c ∷ cs) zero cut =
         let same : text_entry set hand c ≡ e = cc in
         typed_pen set hand c ∙ ap (λ (x : Entry). (after start x).drawing.pen) same

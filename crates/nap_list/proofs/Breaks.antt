@@ -1,4 +1,4 @@
-use Rattle.nap_list.proofs.Common.{AllFit, Entry, Err, Fits, IsErrOf, IsIllegalAt, IsSome, IsTrue, Legal, LegalIsNowhereIllegal, List, None, Ok, OpenDefinition, Option, Some, State, [], after, ap, arith, drop, drop-cons, false, get_or, inl, inr, is_some, length, length-take, refl, start, subst, suc, sym, take, take-append-drop, take_all, take_more, true, walk, zero, ℕ, ◌++◌, ◌+◌, ◌<◌, ◌↔◌, ◌∙◌, ◌∷◌, ◌≡◌, ◌≤◌}
+use Rattle.nap_list.proofs.Common.{AllFit, Entry, Err, Fits, IsErrOf, IsIllegalAt, IsSome, IsTrue, Legal, LegalIsNowhereIllegal, List, None, Ok, OpenDefinition, Option, State, [], after, ap, arith, drop, drop-cons, false, get_or, inl, inr, is_some, length, length-take, refl, start, subst, suc, sym, take, take-append-drop, take_all, take_more, true, walk, zero, ℕ, ◌++◌, ◌+◌, ◌<◌, ◌↔◌, ◌∙◌, ◌∷◌, ◌≡◌, ◌≤◌}
 
 -- A list is illegal at one index at most, and a legal list at none: by the place along a walk, entry after entry.
 
@@ -33,8 +33,7 @@ once s (e ∷ es) (suc i) zero a b = absurd (b a.0)
 once s (e ∷ es) (suc i) (suc j) a b = ap suc (once (after s e) es i j a.1 b.1)
 
 none_opened : (o : Option OpenDefinition) → o ≡ None → IsSome o → ⊥
-none_opened None is opened = let bad : ⊥ = cc in bad
-none_opened (Some x) is opened = let bad : ⊥ = cc in bad
+none_opened o is opened = grind arith
 
 never : (s : State) (es : List Entry) (i : ℕ) → AllFit s es → (walk s es).definition ≡ None → Breaks s es i → ⊥
 unfolding Breaks walk AllFit
@@ -74,10 +73,10 @@ pub only_break : (es : List Entry) (i : ℕ) → IsIllegalAt i es → (j : ℕ) 
 only_break es i breaks j = (λ is. let same : i ≡ j = cc in subst (λ (n : ℕ). IsIllegalAt n es) same breaks, λ other. let same : i ≡ j = breaks_once es i j breaks other in cc)
 
 pub no_break : (es : List Entry) → Legal es → (j : ℕ) → IsErrOf {T = Unit {0}} {E = ℕ} (Ok tt) j ↔ IsIllegalAt j es
-no_break es legal j = (λ is. let bad : ⊥ = cc in absurd bad, λ breaks. absurd (legal_never_breaks es j legal breaks))
+no_break es legal j = (λ is. cc, λ breaks. absurd (legal_never_breaks es j legal breaks))
 
 pub not_legal : (es : List Entry) (i : ℕ) → IsIllegalAt i es → IsTrue false ↔ Legal es
-not_legal es i breaks = (λ is. let bad : ⊥ = cc in absurd bad, λ legal. absurd (legal_never_breaks es i legal breaks))
+not_legal es i breaks = (λ is. cc, λ legal. absurd (legal_never_breaks es i legal breaks))
 
 -- the end of the list
 
@@ -92,8 +91,7 @@ ends_open es i s le state fit opened =
     })
 
 is_none : (o : Option OpenDefinition) → is_some o ≡ false → o ≡ None
-is_none None is = refl
-is_none (Some opened) is = let bad : ⊥ = cc in absurd bad
+is_none o is = grind arith
 
 pub ends_legal : (es : List Entry) (i : ℕ) (s : State) → length es ≤ i → s ≡ walk start (take i es) → AllFit start (take i es) →
     is_some s.definition ≡ false → Legal es

@@ -8,8 +8,8 @@ unfoldable pub use Rattle.nap_list.specs.Batches.{EachIsCurrent, last_point, pol
 pub use Rattle.nap_list.specs.Batches.{batch_entries, last_char_of_text, line_entry, point_entry, text_entry, text_entry_as, text_entry_on, with_pen_and_last}
 pub use Rattle.nap_list.specs.Counting.{CountsEntries, count_sink_model, counts_none}
 pub use Rattle.nap_list.specs.Entry.{IsCode, StepMade, WellMade, attributes, ink_attributes}
-pub use Rattle.nap_list.specs.Known.{colour_code, is_known, known_after_reset, with_known_colour, without_address}
-pub use Rattle.nap_list.specs.Laws.{BatchIsCurrent, CurrentAttributesChangeNothing, FitsJoin, LegalIsNowhereIllegal, StartAgrees, TextEntriesAreWellMade, TextLeaves, WalksJoin}
+pub use Rattle.nap_list.specs.Known.{colour_code, is_known, known_after_reset, with_known_colour}
+pub use Rattle.nap_list.specs.Laws.{BatchIsCurrent, CurrentAttributesChangeNothing, LegalIsNowhereIllegal, StartAgrees, TextEntriesAreWellMade, TextLeaves}
 pub use Rattle.nap_list.specs.Putting.{NotTaken, PutSome, Putting, SinkModel, sink_model}
 pub use Rattle.nap_list.specs.PuttingLaws.{next_stops, one_fits, one_goes, one_put, put_begins, some_taken, wanting_put}
 pub use Rattle.nap_list.specs.Sending.{SendsAll, rest_of, sending, write_fails, write_grows}
@@ -22,7 +22,7 @@ pub use Rattle.nap_list.specs.Walks.{fit_more, walk_more}
 pub use Rattle.nap_list.specs.declared.attribute.Origin.{Origin}
 pub use Rattle.nap_list.specs.declared.attribute.Preset.{Preset}
 pub use Rattle.nap_list.specs.declared.known.MapColour.{MapColour}
-pub use Rattle.std.proofs.Common.{Bool, Err, IsErrOf, IsTrue, List, None, Ok, Option, Some, [], ap, append-nil, arith, cond, drop, false, filter, get_or, inl, inr, is_some, length, length-append, length-drop, length-set, length-take, map, refl, rules, set, subst, suc, sym, take, true, zero, ℕ, ◌++◌, ◌+◌, ◌-◌, ◌<◌, ◌↔◌, ◌∙◌, ◌∷◌, ◌≡◌, ◌≤◌}
+pub use Rattle.std.proofs.Common.{Bool, Err, IsErrOf, IsTrue, List, None, Ok, Option, Some, [], ap, append-nil, arith, cond, drop, false, filter, get_or, inl, inr, is_some, length, length-append, length-drop, length-set, length-take, map, refl, set, subst, suc, sym, take, true, zero, ℕ, ◌++◌, ◌+◌, ◌-◌, ◌<◌, ◌↔◌, ◌∙◌, ◌∷◌, ◌≡◌, ◌≤◌}
 pub use Rattle.std.proofs.Math.Bool.{or-false, or-true}
 pub use Rattle.std.proofs.Math.Seq.{drop-cons, drop-nil}
 pub use Rattle.std.proofs.lemmas.Bool.{true≢false}

@@ -1,4 +1,4 @@
-use Rattle.nap_list.proofs.Common.{Bool, List, [], ap, append-nil, arith, cond, drop, drop-drop, filter, filter_more, drop_more, drop-set-lt, get_or, length, length-append, length-set, length-take-le, set, suc, sym, take, take_all, take_at, take_more_set, true, false, ℕ, ◌++◌, ◌+◌, ◌<◌, ◌∙◌, ◌∷◌, ◌≡◌, ◌≤◌}
+use Rattle.nap_list.proofs.Common.{Bool, List, [], ap, append-nil, arith, cond, drop, drop-drop, filter, filter_more, drop_more, drop-set-lt, get_or, length, length-set, length-take-le, set, suc, sym, take, take_all, take_at, take_more_set, true, false, ℕ, ◌++◌, ◌+◌, ◌<◌, ◌∙◌, ◌∷◌, ◌≡◌, ◌≤◌}
 
 -- A loop that puts an item first and drops what doesn't pass, in place: what was there moves up by one.
 
@@ -51,14 +51,7 @@ module _ {X : Type 0} {p : X → Bool} {first : X} {xs ys : List X} {next : X} {
   size_of : ShiftsInPlace p first xs ys next k i → length (take k ys) ≡ k
   size_of h = length-take-le k ys (omega (arith, h.behind, h.long, h.within))
 
-  -- where all pass in, the last one is appended
-  pub shifted_few : (n : ℕ) → ShiftsInPlace p first xs ys next k i → length xs ≤ i → k ≤ n → take k ys ++ next ∷ [] ≡ first ∷ take n (filter p xs)
-  shifted_few n h all few =
-      let made = passed h all in
-      let size : length (take k ys ++ next ∷ []) ≡ suc (length (filter p xs)) = ap length made in
-      made ∙ ap (λ (l : List X). first ∷ l) (sym (take_all n (filter p xs) (omega (arith, few, size, size_of h, length-append (take k ys) (next ∷ [])))))
-
-  -- else the last one has no place
+  -- where the last one has no place
   pub shifted_all : (n : ℕ) → ShiftsInPlace p first xs ys next k i → length xs ≤ i → k ≡ suc n → take k ys ≡ first ∷ take n (filter p xs)
   shifted_all n h all full =
       sym (take_at (take k ys) (next ∷ []) (suc n) (size_of h ∙ full)) ∙ ap (take (suc n)) (passed h all)

@@ -6,4 +6,3 @@ mod KnownRows
 pub mod KnownLemmas
 pub mod WrittenLemmas
 pub mod Batches
-pub mod FieldlessStructs

@@ -1,5 +1,6 @@
 use Rattle.std.proofs.Common.{ℕ, zero, suc, ◌≡◌, List, [], ◌∷◌, map, take, drop, length, refl, sym, ap}
 use Rattle.std.proofs.lemmas.List.{length-map}
+use Rattle.std.specs.List.{take-map}
 use Rattle.nap_list.specs.Names.{CharSet, Coordinates, drop-map}
 use Rattle.nap_list.specs.Types.{Batch, Drawing, Hand}
 use Rattle.nap_list.specs.declared.attribute.Pen.TheVariants.{After}
@@ -30,9 +31,7 @@ pub sized_text : (b : Batch) (set : _) (codes : _) (pen : _) (d : _) → b ≡ B
 sized_text b set codes pen d is = rw is (text_count set (record (hand_of d.now) { pen = pen }) codes.now)
 
 pub points_prefix : (d : Drawing) (points : List Coordinates) (n : ℕ) → map (point_entry d) (take n points) ≡ take n (map (point_entry d) points)
-points_prefix d points zero = refl
-points_prefix d [] (suc n) = refl
-points_prefix d (p ∷ ps) (suc n) = ap (λ list. point_entry d p ∷ list) (points_prefix d ps n)
+points_prefix d points n = sym (take-map (point_entry d) n points)
 
 pub lines_prefix : (d : Drawing) (from : Coordinates) (points : List Coordinates) (n : ℕ) → polyline_entries d from (take n points) ≡ take n (polyline_entries d from points)
 unfolding polyline_entries

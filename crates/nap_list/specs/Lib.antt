@@ -11,6 +11,7 @@ pub mod Sending
 pub mod Known
 pub mod State
 pub mod Types
+pub mod Taken
 pub mod Counting
 pub mod Batches
 pub mod BatchLaws

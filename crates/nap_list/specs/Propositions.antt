@@ -9,14 +9,12 @@ use Rattle.nap_list.specs.Agreement.{BaseAgrees, ColourAgrees, ModeZeroIsBase, A
 -- Each of these facts has at most one proof, so a ghost field may hold it.
 
 pub PenFits-prop : (pen : Pen) (attributes : Option Pen) → IsProp (PenFits pen attributes)
-PenFits-prop pen None = hlevel props
 PenFits-prop pen (Some Pen.Start) = hlevel props
-PenFits-prop pen (Some Pen.After) = hlevel props
-PenFits-prop pen (Some (Pen.At point)) = hlevel props
+PenFits-prop pen _ = hlevel props
 
 pub MaskFits-prop : (texture : Texture) (mask : Option Displacement) → IsProp (MaskFits texture mask)
 MaskFits-prop texture None = hlevel props
-MaskFits-prop texture (Some mask) = hlevel props
+MaskFits-prop texture _ = hlevel props
 
 pub TextureFits-prop : (texture : Texture) (attributes : Option Texture) → IsProp (TextureFits texture attributes)
 TextureFits-prop texture None = hlevel props
@@ -24,21 +22,15 @@ TextureFits-prop texture (Some wanted) = MaskFits-prop texture wanted.mask
 
 pub BaseAgrees-prop : (base shown : Base) → IsProp (BaseAgrees base shown)
 BaseAgrees-prop (Base.Own origin) shown = hlevel props
-BaseAgrees-prop (Base.Direct grb) shown = hlevel props
+BaseAgrees-prop _ shown = hlevel props
 
 pub ColourAgrees-prop : (colour shown : Colour) → IsProp (ColourAgrees colour shown)
 ColourAgrees-prop (Colour.ByReset preset) shown = hlevel props
-ColourAgrees-prop (Colour.Own origin) shown = hlevel props
-ColourAgrees-prop (Colour.Direct grb) shown = hlevel props
-ColourAgrees-prop (Colour.Front addr) shown = hlevel props
-ColourAgrees-prop (Colour.Pair front back) shown = hlevel props
+ColourAgrees-prop _ shown = hlevel props
 
 pub ModeZeroIsBase-prop : (base : Base) (colour : Colour) → IsProp (ModeZeroIsBase base colour)
 ModeZeroIsBase-prop base (Colour.Own origin) = hlevel props
-ModeZeroIsBase-prop base (Colour.Direct grb) = hlevel props
-ModeZeroIsBase-prop base (Colour.ByReset preset) = hlevel props
-ModeZeroIsBase-prop base (Colour.Front addr) = hlevel props
-ModeZeroIsBase-prop base (Colour.Pair front back) = hlevel props
+ModeZeroIsBase-prop base _ = hlevel props
 
 pub Agrees-prop : (d shown : Drawing) → IsProp (Agrees d shown)
 Agrees-prop d shown = hlevel (
@@ -51,10 +43,10 @@ Agrees-prop d shown = hlevel (
 )
 
 pub DefinitionsAgree-prop : (opened shown : Option OpenDefinition) → IsProp (DefinitionsAgree opened shown)
+DefinitionsAgree-prop (Some opened) (Some shown) = hlevel (props, Agrees-prop opened.saved shown.saved)
 DefinitionsAgree-prop None None = hlevel props
 DefinitionsAgree-prop None (Some shown) = hlevel props
 DefinitionsAgree-prop (Some opened) None = hlevel props
-DefinitionsAgree-prop (Some opened) (Some shown) = hlevel (props, Agrees-prop opened.saved shown.saved)
 
 pub IsCode-prop : (last : Option LastChar) → IsProp (IfSome last (λ last. IsCode last.code))
 IsCode-prop None = hlevel props

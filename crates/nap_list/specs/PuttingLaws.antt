@@ -106,7 +106,7 @@ module _ {S : Type 0} (g : SinkModel S) where
     took = took;
     state = state;
     works = λ _. false_from_ne_true (g.failed u) (λ h. cc (only h));
-    none = λ set. let bad : ⊥ = cc (refuses set) in absurd bad;
+    none = λ set. cc (refuses set);
   }
 
   -- the first entry of a list wasn't taken
@@ -114,9 +114,9 @@ module _ {S : Type 0} (g : SinkModel S) where
   stops_at_first t u x rest Memory none put = (
     record { prefix = []; next = x; rest = rest; parts = refl; count = refl; taken = subst (g.took t []) (sym (put.memory refl)) none; wants = put.wants refl },
     record {
-      write = λ e. (let bad : ⊥ = cc in absurd bad);
+      write = λ e. cc;
       memory = λ _. false_from_ne_true (g.failed u) (λ h. cc (put.only_write h));
-      none = λ set. let bad : ⊥ = cc (put.refuses set) in absurd bad;
+      none = λ set. cc (put.refuses set);
     },
   )
   stops_at_first t u x rest Write none put = (
@@ -124,7 +124,7 @@ module _ {S : Type 0} (g : SinkModel S) where
       | inl h ↦ inl (h, put.still refl h, refl)
       | inr h ↦ inr (record { prefix = []; next = x; rest = rest; parts = refl; count = refl; broken = put.broke refl h })
     ],
-    record { write = λ _. put.write refl; memory = λ e. (let bad : ⊥ = cc in absurd bad); none = λ set. (refl, put.still refl set, refl) },
+    record { write = λ _. put.write refl; memory = λ e. cc; none = λ set. (refl, put.still refl set, refl) },
   )
 
   -- the error has the number of entries taken
@@ -136,7 +136,7 @@ module _ {S : Type 0} (g : SinkModel S) where
       ((x : Entry) → g.wants s (take n list ++ x ∷ [])) → Put g list s t (Err (record { taken = n; fault = Memory }))
   stops_after s t list n less clear works took wants = (
     by (drop n list) (sym (take-append-drop n list)),
-    record { write = λ e. (let bad : ⊥ = cc in absurd bad); memory = λ _. works; none = λ set. (let bad : ⊥ = cc in absurd bad) },
+    record { write = λ e. cc; memory = λ _. works; none = λ set. cc },
   )
     where
       size : length (take n list) ≡ n
@@ -155,7 +155,7 @@ module _ {S : Type 0} (g : SinkModel S) where
         took = subst (λ (list : List Entry). g.took s list t) all took;
         state = state ∙ ap (walk (g.state s)) all;
         works = λ _. works;
-        none = λ set. (let bad : ⊥ = cc in absurd bad);
+        none = λ set. cc;
       }
   some_taken s t list n (Err stop) ends clear works took state wants =
       subst (λ (stop : BatchFault). Put g list s t (Err stop)) (sym ends.0) (stops_after s t list n ends.1 clear works took (wants ends.1))
@@ -224,10 +224,10 @@ module _ {S : Type 0} (g : SinkModel S) where
       let not : NotTaken g s s x Memory = record {
         memory = λ _. refl;
         wants = λ _. wants;
-        refuses = λ set. (let bad : ⊥ = cc in absurd bad);
-        write = λ e. (let bad : ⊥ = cc in absurd bad);
-        only_write = λ set. (let bad : ⊥ = cc in absurd bad);
-        broke = λ e. (let bad : ⊥ = cc in absurd bad);
+        refuses = λ set. cc;
+        write = λ e. cc;
+        only_write = λ set. cc;
+        broke = λ e. cc;
         still = λ _ _. refl;
       } in
       subst (λ (fault : SinkFault). PutSome {A = Unit {0}} g (x ∷ []) s s (Err fault)) (sym is) (some_put (Unit {0}) s s (x ∷ []) 0 Memory (stops_at_first s s x [] Memory none not))

@@ -1,4 +1,5 @@
 use Rattle.std.proofs.Common.{ℕ, ◌≡◌, ◌+◌, ◌-◌, ◌^◌, ◌<◌, ◌≤◌, ◌||◌, Bool, true, false, Option, Result, Ok, Err, List, [], ◌++◌, length, take, drop, take-add, min, refl, ap, sym, subst, ◌∙◌, length-append, length-drop, append-nil, take_all, arith}
+use Rattle.std.proofs.Math.Bool.{or-false, or_assoc}
 use Rattle.std.proofs.lemmas.List.{length-take-le}
 use Rattle.std.specs.Io.KnownBytes.{Appends, Keeps}
 use Rattle.std.proofs.KnownBytes.{Appends-kept, Appends-nil, Appends-trans}
@@ -69,22 +70,14 @@ counted_more m a b s t u first second = omega arith
 counted_none : (m s : ℕ) → s ≡ s + min 0 (m - s)
 counted_none m s = omega arith
 
-or_false : (b : Bool) → b ≡ (b || false)
-or_false true = refl
-or_false false = refl
-
-or_more : (a b c : Bool) → ((a || b) || c) ≡ (a || (b || c))
-or_more true b c = refl
-or_more false b c = refl
-
 writes_none : (s : Sending) → Writes s s
-writes_none s = record { fails = false; failed = or_false s.failed; write_failed = or_false s.write_failed; flushes = refl }
+writes_none s = record { fails = false; failed = sym (or-false s.failed); write_failed = sym (or-false s.write_failed); flushes = refl }
 
 writes_more : (s t u : Sending) → Writes s t → Writes t u → Writes s u
 writes_more s t u first second = record {
   fails = first.fails || second.fails;
-  failed = second.failed ∙ ap (λ (b : Bool). b || second.fails) first.failed ∙ or_more s.failed first.fails second.fails;
-  write_failed = second.write_failed ∙ ap (λ (b : Bool). b || second.fails) first.write_failed ∙ or_more s.write_failed first.fails second.fails;
+  failed = second.failed ∙ ap (λ (b : Bool). b || second.fails) first.failed ∙ or_assoc s.failed first.fails second.fails;
+  write_failed = second.write_failed ∙ ap (λ (b : Bool). b || second.fails) first.write_failed ∙ or_assoc s.write_failed first.fails second.fails;
   flushes = second.flushes ∙ first.flushes;
 }
 

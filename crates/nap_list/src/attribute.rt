@@ -40,8 +40,7 @@ pub enum Preset {
     Three,
 }
 
-/// The colour in use (PROFILE.md, Colours). `Own` and `Direct` belong to colour mode 0, `Front` to mode 1, and `Pair`,
-/// foreground before background, to mode 2.
+/// The colour in use (PROFILE.md, Colours). `Own` and `Direct` belong to mode 0, `Front` to mode 1, `Pair` to mode 2.
 #[derive(Clone, Copy, PartialEq, Eq, Debug, Drop)]
 pub enum Colour {
     /// The terminal's own colour.
@@ -56,8 +55,7 @@ pub enum Colour {
     ByReset(Preset),
 }
 
-/// The texture of lines and areas: the word of TEXTURE, and the size of the mask if one was given (PROFILE.md, The
-/// drawing state).
+/// The texture of lines and areas: the word of TEXTURE, and the size of the mask (PROFILE.md, The drawing state).
 #[derive(Clone, Copy, PartialEq, Eq, Debug, Drop)]
 pub struct Texture {
     /// The word of TEXTURE.
@@ -75,8 +73,7 @@ pub enum CharSize {
     Given(Move),
 }
 
-/// The text attributes: the two words and the size of TEXT, and the four modes of the C1 set (PROFILE.md, The drawing
-/// state).
+/// The two words and the size of TEXT, and the four modes of the C1 set (PROFILE.md, The drawing state).
 #[derive(Clone, Copy, PartialEq, Eq, Debug, Drop)]
 pub struct TextLook {
     /// The first word of TEXT.

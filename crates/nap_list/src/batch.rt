@@ -3,12 +3,12 @@
 
 ghost use Rattle.std.specs.Prelude.{◌≡◌, ◌↔◌, ◌<◌, ◌≤◌, ◌+◌, List, [], ◌∷◌, IsTrue, length, take, drop};
 ghost use Rattle.nap_list.specs.declared.entry.Entry.{Entry};
-ghost use Rattle.nap_list.specs.Batches.{EachIsCurrent, FirstIsCurrent, last_point, last_char_of_text, batch_entries, with_pen_and_last, text_entry};
+ghost use Rattle.nap_list.specs.Batches.{FirstIsCurrent, last_point, last_char_of_text, batch_entries, text_entry};
 ghost use Rattle.nap_list.specs.State.{after, start, walk};
 
 use crate::attribute::{Hand, Pen};
 use crate::entry::Entry;
-use crate::state::{Drawing, LastChar, State};
+use crate::state::{Drawing, LastChar};
 use nap_codes::{CharSet, format_effector};
 use nap_values::Point;
 
@@ -26,8 +26,7 @@ pub enum Batch<'a> {
         points: &'a [Point],
         drawing: &'a Drawing,
     },
-    /// The characters of a text, and format effectors of one byte among them. The first is at this pen; each further
-    /// one is at the pen that the one before it leaves.
+    /// Characters and format effectors of one byte: the first at this pen, each further one at the pen that it finds.
     Text {
         set: CharSet,
         codes: &'a [u8],
@@ -119,6 +118,20 @@ impl<'a> Batch<'a> {
             }
         }
     }
+
+    /// Returns the pen after the entry at this index.
+    #[inline(always)]
+    pub(crate) fn pen_after(&self, index: usize) -> Pen
+        requires { index < length (batch_entries self.now) }
+        ensures { (e : Entry) (es : List Entry) → drop index (batch_entries self.now) ≡ e ∷ es → result ≡ (after start e).drawing.pen }
+    {
+        match self {
+            Batch::Points { points, .. } | Batch::Lines { points, .. } => {
+                Pen::At(item_at(points, index))
+            }
+            Batch::Text { .. } => Pen::After,
+        }
+    }
 }
 
 /// Returns the entry of a byte of a text: a move for a format effector, else a character of the set.
@@ -163,56 +176,4 @@ pub fn line_start(from: Point, points: &[Point], index: usize) -> Point
         return from;
     }
     points[index - 1]
-}
-
-impl<'a> Batch<'a> {
-    /// Returns the pen after the entry at this index.
-    #[inline(always)]
-    pub(crate) fn pen_after(&self, index: usize) -> Pen
-        requires { index < length (batch_entries self.now) }
-        ensures { (e : Entry) (es : List Entry) → drop index (batch_entries self.now) ≡ e ∷ es → result ≡ (after start e).drawing.pen }
-    {
-        match self {
-            Batch::Points { points, .. } | Batch::Lines { points, .. } => {
-                Pen::At(item_at(points, index))
-            }
-            Batch::Text { .. } => Pen::After,
-        }
-    }
-}
-
-impl State {
-    /// Advances the pen and the last character past the entry of a batch at this index; all else stays.
-    #[inline(always)]
-    fn step_pen(&mut self, batch: &Batch, index: usize)
-        requires { index < length (batch_entries batch.now) }
-        ensures { (e : Entry) (es : List Entry) → drop index (batch_entries batch.now) ≡ e ∷ es → self.new ≡ with_pen_and_last self.old e self.old.drawing }
-    {
-        match batch {
-            Batch::Points { points, .. } | Batch::Lines { points, .. } => {
-                self.drawing.pen = Pen::At(item_at(points, index));
-                self.last = None;
-            }
-            Batch::Text { set, codes, .. } => {
-                let code = item_at(codes, index);
-                self.drawing.pen = Pen::After;
-                self.last = last_char_of_text(*set, code);
-            }
-        }
-    }
-
-    /// Advances past `count` entries of a batch from `first`, whose attributes are already current.
-    #[inline(always)]
-    pub fn step_from(&mut self, batch: &Batch, first: usize, count: usize)
-        requires some { first ≤ length (batch_entries batch.now) }
-        requires few { count + first ≤ length (batch_entries batch.now) }
-        requires current { EachIsCurrent self.old (drop first (batch_entries batch.now)) }
-        ensures { self.new ≡ walk self.old (take count (drop first (batch_entries batch.now))) }
-    {
-        if let Some(further) = count.checked_sub(1) {
-            // The number of entries fits a `usize`, so the sum does.
-            let _len = batch.len();
-            self.step_pen(batch, first + further);
-        }
-    }
 }

@@ -1,5 +1,5 @@
 //! A sink that counts entries.
-ghost use Rattle.std.specs.Prelude.{◌≡◌, ◌+◌, ◌-◌, ◌^◌, false};
+ghost use Rattle.std.specs.Prelude.{◌≡◌, ◌+◌, ◌-◌, false};
 ghost use Rattle.nap_list.specs.State.{start};
 ghost use Rattle.nap_list.specs.Counting.{CountsEntries, Uncounted, counts_more, counts_none, uncounted_more};
 
@@ -26,14 +26,6 @@ impl CountSink {
             count: 0,
             state: GhostState::start(),
         }
-    }
-
-    /// Returns the number of further entries that the count can hold.
-    #[inline(always)]
-    fn space_left(&self) -> u64
-        ensures { self.now.count + result ≡ 2 ^ 64 - 1 }
-    {
-        u64::MAX - self.count
     }
 
     /// Returns the number of entries taken.
@@ -67,12 +59,7 @@ impl Sink for CountSink {
 
     #[inline(always)]
     fn put_batch(&mut self, batch: &Batch) -> Result<(), BatchFault> {
-        if let Some(count) = self.count.checked_add(batch.len() as u64) {
-            self.count = count;
-            self.state = self.state.after_first(batch, batch.len());
-            return Ok(());
-        }
-        let taken = (batch.len() as u64).min(self.space_left()) as usize;
+        let taken = (batch.len() as u64).min(u64::MAX - self.count) as usize;
         self.count += taken as u64;
         self.state = self.state.after_first(batch, taken);
         BatchFault::error_unless_all(taken, batch)

@@ -3,6 +3,7 @@ ghost use Rattle.std.specs.Io.{ReadsAtMost, WritesAtMost};
 ghost use Rattle.std.specs.Io.KnownBytes.{Keeps, ReadConsumes, WriteAppends};
 ghost use Rattle.std.specs.Prelude.{Bool, IfOk, List, Option, false, is_err, length, min, not, true, ℕ, ◌+◌, ◌-◌, ◌<◌, ◌^◌, ◌||◌, ◌≡◌};
 ghost use Rattle.std.proofs.Common.{ap};
+ghost use Rattle.nap_list.specs.Device.{ReadingFrom, WritingTo};
 
 mod sending;
 
@@ -36,8 +37,7 @@ pub trait Inlet {
     /// Whether a read has failed.
     ghost failed: { Self → Bool };
 
-    /// Reads bytes to the beginning of `room` and returns their number. Zero means the end, unless `room` is empty. An
-    /// error moves no byte, and reading may continue after it.
+    /// Reads bytes to the beginning of `room` and returns their number; zero is the end. An error moves no byte.
     fn read(&mut self, room: &mut [u8]) -> Result<usize, DeviceFault>
         ensures bound { ReadsAtMost result room.new }
         ensures bytes { ReadConsumes (left self.old) (left self.new) result room.new }
@@ -62,8 +62,6 @@ pub struct Source<R> {
 }
 
 impl<R> Model for Source<R> {
-    ghost use Rattle.nap_list.specs.Device.{ReadingFrom};
-
     ghost Value = { ReadingFrom R };
 
     ghost view = { λ s. record { reader = s.reader; calls = s.calls; failed = s.failed } };
@@ -99,13 +97,9 @@ impl<R: Read> Inlet for Source<R> {
 
     fn read(&mut self, room: &mut [u8]) -> Result<usize, DeviceFault> {
         self.calls = self.calls.saturating_add(1);
-        match self.reader.read(room) {
-            Ok(count) => Ok(count),
-            Err(_) => {
-                self.failed = true;
-                Err(DeviceFault)
-            }
-        }
+        let result = self.reader.read(room).or(Err(DeviceFault));
+        self.failed |= result.is_err();
+        result
     }
 
     fn calls(&self) -> u64 {
@@ -134,8 +128,7 @@ pub trait Outlet {
     /// The number of flushes so far, failed ones included, saturating at the greatest `u64`.
     ghost flushes: { Self → ℕ };
 
-    /// Takes bytes from the beginning of `piece` and returns their number, which is at least one unless `piece` is
-    /// empty. An error takes no byte, and writing may continue after it.
+    /// Takes bytes from the beginning of `piece` and returns their number, at least one. An error takes no byte.
     fn write(&mut self, piece: &[u8]) -> Result<usize, DeviceFault>
         ensures bound { WritesAtMost result piece.now }
         ensures some { 0 < length piece.now → IfOk result (λ n. 0 < n) }
@@ -172,8 +165,6 @@ pub struct Target<W> {
 }
 
 impl<W> Model for Target<W> {
-    ghost use Rattle.nap_list.specs.Device.{WritingTo};
-
     ghost Value = { WritingTo W };
 
     ghost view = { λ t. record { writer = t.writer; write_failed = t.write_failed; flush_failed = t.flush_failed; sent = t.sent; flushes = t.flushes } };
@@ -213,15 +204,12 @@ impl<W: Write> Outlet for Target<W> {
 
     ghost flushes = { λ t. t.flushes };
 
+    #[inline(always)]
     fn write(&mut self, piece: &[u8]) -> Result<usize, DeviceFault> {
         self.sent = false;
         match self.writer.write(piece) {
-            Ok(0) if !piece.is_empty() => {
-                self.write_failed = true;
-                Err(DeviceFault)
-            }
-            Ok(count) => Ok(count),
-            Err(_) => {
+            Ok(count) if count > 0 || piece.is_empty() => Ok(count),
+            _ => {
                 self.write_failed = true;
                 Err(DeviceFault)
             }
@@ -230,17 +218,10 @@ impl<W: Write> Outlet for Target<W> {
 
     fn flush(&mut self) -> Result<(), DeviceFault> {
         self.flushes = self.flushes.saturating_add(1);
-        match self.writer.flush() {
-            Ok(()) => {
-                self.sent = true;
-                Ok(())
-            }
-            Err(_) => {
-                self.sent = false;
-                self.flush_failed = true;
-                Err(DeviceFault)
-            }
-        }
+        let result = self.writer.flush().or(Err(DeviceFault));
+        self.sent = result.is_ok();
+        self.flush_failed |= result.is_err();
+        result
     }
 
     fn failed(&self) -> bool {

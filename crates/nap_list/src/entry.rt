@@ -1,14 +1,13 @@
 //! The entries of a display list (PROFILE.md, The display list).
 ghost use Rattle.std.specs.Prelude.{◌≡◌, ◌↔◌, IsTrue};
-ghost use Rattle.nap_list.specs.Entry.{IsCode, ink_attributes, hand_attributes, colour_only, pen_only, attributes, WellMade};
+ghost use Rattle.nap_list.specs.Entry.{IsCode, attributes, WellMade};
 
 use crate::attribute::{Area, Attributes, Colour, Hand, Ink, Pen};
 use crate::shape::{Points, SHAPE_POINTS};
 use nap_codes::{CharSet, CursorKind, Mask, TextStep};
 use nap_values::{Addr, Grb, Move, Point, Word};
 
-/// An entry of a display list: one act, with the attributes that it depends on and with absolute points (PROFILE.md,
-/// The display list).
+/// One act, with the attributes that it depends on and with absolute points (PROFILE.md, The display list).
 #[derive(PartialEq, Eq, Debug, Drop)]
 pub enum Entry {
     /// A point, as large as the logical pel.
@@ -67,8 +66,7 @@ pub enum Entry {
         /// The attributes that it is drawn with.
         hand: Hand,
     },
-    /// A format effector, which moves the active position of text. Afterwards the pen is at a position that only a
-    /// terminal knows.
+    /// A format effector. Afterwards the pen is at a position that only a terminal knows.
     TextMove {
         /// The format effector.
         step: TextStep,
@@ -161,54 +159,6 @@ fn is_code(code: u8) -> bool
     0x20 <= code && code <= 0x7F
 }
 
-impl Ink {
-    fn attributes(self) -> Attributes
-        ensures { result ≡ ink_attributes self }
-    {
-        Attributes {
-            pel: Some(self.pel),
-            colour: Some(self.colour),
-            texture: Some(self.texture),
-            ..NO_ATTRIBUTES
-        }
-    }
-}
-
-impl Hand {
-    fn attributes(self) -> Attributes
-        ensures { result ≡ hand_attributes self }
-    {
-        Attributes {
-            pen: Some(self.pen),
-            colour: Some(self.colour),
-            text: Some(self.text),
-            ..NO_ATTRIBUTES
-        }
-    }
-}
-
-impl Colour {
-    fn attributes(self) -> Attributes
-        ensures { result ≡ colour_only self }
-    {
-        Attributes {
-            colour: Some(self),
-            ..NO_ATTRIBUTES
-        }
-    }
-}
-
-impl Pen {
-    fn attributes(self) -> Attributes
-        ensures { result ≡ pen_only self }
-    {
-        Attributes {
-            pen: Some(self),
-            ..NO_ATTRIBUTES
-        }
-    }
-}
-
 impl Entry {
     /// Returns the attributes that the entry holds.
     pub fn attributes(&self) -> Attributes
@@ -220,19 +170,35 @@ impl Entry {
                 colour: Some(*colour),
                 ..NO_ATTRIBUTES
             },
-            Entry::Line { ink, .. } => ink.attributes(),
-            Entry::Arc { ink, .. } => ink.attributes(),
-            Entry::Rect { ink, .. } => ink.attributes(),
-            Entry::Poly { ink, .. } => ink.attributes(),
-            Entry::Char { hand, .. } => hand.attributes(),
-            Entry::TextMove { hand, .. } => hand.attributes(),
-            Entry::ToEol { hand } => hand.attributes(),
-            Entry::Blink { colour, .. } => colour.attributes(),
-            Entry::BlinkEnd { colour } => colour.attributes(),
-            Entry::BlinkMark { colour, .. } => colour.attributes(),
-            Entry::Field { pen, .. } => pen.attributes(),
-            Entry::Reset { pen, .. } => pen.attributes(),
-            Entry::Clear { pen } => pen.attributes(),
+            Entry::Line { ink, .. }
+            | Entry::Arc { ink, .. }
+            | Entry::Rect { ink, .. }
+            | Entry::Poly { ink, .. } => Attributes {
+                pel: Some(ink.pel),
+                colour: Some(ink.colour),
+                texture: Some(ink.texture),
+                ..NO_ATTRIBUTES
+            },
+            Entry::Char { hand, .. } | Entry::TextMove { hand, .. } | Entry::ToEol { hand } => {
+                Attributes {
+                    pen: Some(hand.pen),
+                    colour: Some(hand.colour),
+                    text: Some(hand.text),
+                    ..NO_ATTRIBUTES
+                }
+            }
+            Entry::Blink { colour, .. }
+            | Entry::BlinkEnd { colour }
+            | Entry::BlinkMark { colour, .. } => Attributes {
+                colour: Some(*colour),
+                ..NO_ATTRIBUTES
+            },
+            Entry::Field { pen, .. } | Entry::Reset { pen, .. } | Entry::Clear { pen } => {
+                Attributes {
+                    pen: Some(*pen),
+                    ..NO_ATTRIBUTES
+                }
+            }
             _ => NO_ATTRIBUTES,
         }
     }
@@ -242,14 +208,8 @@ impl Entry {
         ensures { IsTrue result ↔ WellMade self.now }
     {
         match self {
-            Entry::Arc { points, .. } => {
-                let count = points.as_slice().len();
-                3 <= count && count <= SHAPE_POINTS
-            }
-            Entry::Poly { points, .. } => {
-                let count = points.as_slice().len();
-                2 <= count && count <= SHAPE_POINTS
-            }
+            Entry::Arc { points, .. } => matches!(points.as_slice().len(), 3..=SHAPE_POINTS),
+            Entry::Poly { points, .. } => matches!(points.as_slice().len(), 2..=SHAPE_POINTS),
             Entry::Char { code, .. } => is_code(*code),
             Entry::TextMove {
                 step: TextStep::Aps(a, b),

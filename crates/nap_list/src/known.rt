@@ -1,9 +1,10 @@
 //! The known colours of the colour map (PROFILE.md, Known colours of the map).
 ghost use Rattle.std.specs.Cmp.Lexicographic.{pointwise};
 ghost use Rattle.std.specs.Cmp.Rules.{comparing};
-ghost use Rattle.std.specs.Prelude.{[], ◌≡◌};
+ghost use Rattle.std.specs.Prelude.{[], ◌≡◌, List};
 ghost use Rattle.std.proofs.Common.{rules};
 ghost use Rattle.nap_list.specs.Known.{same_colour_at, is_known, with_known_colour, known_after_reset};
+ghost use Rattle.nap_list.specs.declared.known.MapColour.{MapColour};
 
 use arrayvec::ArrayVec;
 use nap_values::{Addr, Grb, Word};
@@ -30,17 +31,13 @@ impl Default for MapColour {
     }
 }
 
-/// The known colours of the colour map: at most 16, the last set first, each address once (PROFILE.md, Known colours of
-/// the map).
+/// At most 16 known colours, the last set first, each address once (PROFILE.md, Known colours of the map).
 #[derive(Drop)]
 pub struct Known {
     colours: ArrayVec<MapColour, KNOWN>,
 }
 
 impl Model for Known {
-    ghost use Rattle.std.specs.Prelude.{List};
-    ghost use Rattle.nap_list.specs.declared.known.MapColour.{MapColour};
-
     ghost Value = { List MapColour };
 
     ghost view = { λ k. k.colours.items };

@@ -1,4 +1,6 @@
 //! Laws about states and lists. Each is the contract of a function that does nothing.
+#![tactic(auto, using(crate::proofs::PublicLaws::laws))]
+
 ghost use Rattle.std.specs.Prelude.{◌≡◌};
 ghost use Rattle.nap_list.specs.Laws.{WalksJoin, FitsJoin, StartAgrees, CurrentAttributesChangeNothing, LegalIsNowhereIllegal, BatchIsCurrent, TextLeaves, TextEntriesAreWellMade};
 ghost use Rattle.nap_list.specs.Agreement.{AgreeingFits};
@@ -8,31 +10,26 @@ ghost use Rattle.nap_list.specs.declared.known.TheConstants.{KNOWN};
 ghost use Rattle.nap_list.specs.declared.shape.TheConstants.{SHAPE_POINTS};
 
 /// The state after two lists is the state after the second, begun at the state after the first.
-#[tactic(auto, using(crate::proofs::PublicLaws::walks_join))]
 pub fn walks_join()
     ensures { WalksJoin }
 {}
 
 /// Two lists fit one after the other exactly if the first fits, and the second fits the state that the first leaves.
-#[tactic(auto, using(crate::proofs::PublicLaws::fits_join))]
 pub fn fits_join()
     ensures { FitsJoin }
 {}
 
-/// If a state agrees with the one that the entries so far leave, an entry that holds the current attributes of the
-/// former fits, and the states agree again after it.
+/// If a state agrees with that of the entries so far, an entry of its attributes fits, and they agree after it.
 pub fn agreeing_fits()
     ensures { AgreeingFits }
 {}
 
 /// The state at the start agrees with the state of the empty list.
-#[tactic(auto, using(crate::proofs::PublicLaws::start_agrees))]
 pub fn start_agrees()
     ensures { StartAgrees }
 {}
 
 /// Applying attributes that are already current changes nothing.
-#[tactic(auto, using(crate::proofs::PublicLaws::taking_nothing))]
 pub fn current_attributes_change_nothing()
     ensures { CurrentAttributesChangeNothing }
 {}
@@ -48,13 +45,11 @@ pub fn batch_is_current()
 {}
 
 /// A text leaves the state that its last byte leaves, with the attributes of its first.
-#[tactic(auto, using(crate::proofs::PublicLaws::text_leaves))]
 pub fn text_leaves()
     ensures { TextLeaves }
 {}
 
-/// The constants have the values of the profile: 2,001 points, 1,048,576 reads of 65,536 bytes and 16 known
-/// colours (PROFILE.md, Limits).
+/// The limits of points, reads, bytes of a read and known colours are those of the profile (PROFILE.md, Limits).
 pub fn limits()
     ensures points { SHAPE_POINTS ≡ points_limit }
     ensures reads { READS ≡ reads_limit }

@@ -5,9 +5,8 @@ ghost use Rattle.nap_list.specs.State.{Legal, IsIllegalAt};
 use crate::entry::Entry;
 use crate::state::State;
 
-/// Checks that each entry fits the state that those before it leave, and that no definition is left open (PROFILE.md,
-/// Which entries fit). The error is the index of the first entry that doesn't fit, or the length if only a definition
-/// is left open.
+/// Checks that each entry fits and that no definition is left open (PROFILE.md, Which entries fit). The error is the
+/// index of the first entry that doesn't fit, or the length if only a definition is left open.
 pub fn legal(entries: &[Entry]) -> Result<(), usize>
     ensures ok { IsOk result ↔ Legal entries.now }
     ensures err { (index : ℕ) → IsErrOf result index ↔ IsIllegalAt index entries.now }

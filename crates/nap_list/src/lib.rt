@@ -1,5 +1,4 @@
-//! Display lists: their entries, the state that they leave, legality; sinks, which take entries; and devices, which
-//! give and take bytes (PROFILE.md, The display list).
+//! Display lists, sinks, which take entries, and devices, which give and take bytes (PROFILE.md, The display list).
 #![tactic(auto)]
 
 mod attribute;

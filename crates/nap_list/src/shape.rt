@@ -2,12 +2,12 @@
 ghost use Rattle.std.specs.Cmp.Lexicographic.{pointwise};
 ghost use Rattle.std.specs.Cmp.Rules.{comparing};
 ghost use Rattle.std.specs.Ordering.{eq_of_both, on};
-ghost use Rattle.std.specs.Prelude.{IfOk, None, OnErr, OnOk, Some, [], nat_eq, slice_get, ◌++◌, ◌∷◌, ◌≡◌};
-ghost use Rattle.nap_list.specs.Shapes.{entry_of_shape, circle_closed, shape_end, shape_entry, shape_points};
+ghost use Rattle.std.specs.Prelude.{IfOk, None, OnErr, OnOk, [], nat_eq, ◌++◌, ◌∷◌, ◌≡◌};
+ghost use Rattle.nap_list.specs.Shapes.{entry_of_shape, shape_end, shape_points};
 ghost use Rattle.nap_list.specs.State.{after};
 ghost use Rattle.std.proofs.Common.{rules};
 
-use crate::attribute::{Ink, Pen};
+use crate::attribute::Pen;
 use crate::entry::Entry;
 use crate::state::{Drawing, State};
 use nap_values::Point;
@@ -38,11 +38,21 @@ pub struct Shape<'a> {
     pub drawing: &'a Drawing,
 }
 
-impl ShapeKind {
-    fn entry(self, filled: bool, points: Points, ink: Ink) -> Entry
-        ensures { result ≡ shape_entry self filled points ink }
+impl<'a> Shape<'a> {
+    /// Returns its entry, with points of its own. An error takes no memory.
+    pub fn entry(&self, alloc: Global) -> Result<Entry, AllocError>
+        ensures { IfOk result (λ entry. entry ≡ entry_of_shape self.now) }
     {
-        match self {
+        let mut points = Points::with_capacity(alloc, self.others.len().saturating_add(2))?;
+        points.push(self.from)?;
+        for point in self.others {
+            points.push(*point)?;
+        }
+        if self.kind == ShapeKind::Arc && self.others.len() == 1 {
+            points.push(self.from)?;
+        }
+        let (filled, ink) = (self.filled, self.drawing.ink());
+        Ok(match self.kind {
             ShapeKind::Arc => Entry::Arc {
                 filled,
                 points,
@@ -53,29 +63,7 @@ impl ShapeKind {
                 points,
                 ink,
             },
-        }
-    }
-}
-
-impl<'a> Shape<'a> {
-    /// Returns the points of its entry. An error takes no memory.
-    fn points(&self, alloc: Global) -> Result<Points, AllocError>
-        ensures { IfOk result (λ points. points ≡ shape_points self.now) }
-    {
-        let mut points = points_from(alloc, self.from, self.others)?;
-        match self.kind {
-            ShapeKind::Arc => close_circle(&mut points, self.from)?,
-            ShapeKind::Poly => {}
-        }
-        Ok(points)
-    }
-
-    /// Returns its entry, with points of its own. An error takes no memory.
-    pub fn entry(&self, alloc: Global) -> Result<Entry, AllocError>
-        ensures { IfOk result (λ entry. entry ≡ entry_of_shape self.now) }
-    {
-        let points = self.points(alloc)?;
-        Ok(self.kind.entry(self.filled, points, self.drawing.ink()))
+        })
     }
 
     /// Returns the position of the pen after it.
@@ -90,29 +78,6 @@ impl<'a> Shape<'a> {
             _ => self.from,
         }
     }
-}
-
-/// Returns a point followed by others.
-fn points_from(alloc: Global, from: Point, points: &[Point]) -> Result<Points, AllocError>
-    ensures { IfOk result (λ made. made ≡ from ∷ points.now) }
-{
-    let mut made = Points::with_capacity(alloc, points.len().saturating_add(2))?;
-    made.push(from)?;
-    for point in points {
-        made.push(*point)?;
-    }
-    Ok(made)
-}
-
-/// Appends the start to an arc of one displacement, which makes it a circle.
-fn close_circle(points: &mut Points, start: Point) -> Result<(), AllocError>
-    requires { slice_get points.old 0 ≡ Some start }
-    ensures { OnOk result (points.new ≡ circle_closed points.old) }
-{
-    if points.as_slice().len() == 2 {
-        points.push(start)?;
-    }
-    Ok(())
 }
 
 impl State {

@@ -86,8 +86,7 @@ pub trait Sink {
     /// The second sink is the first one after it took the list, and failed during the entry.
     ghost broke: { Self → List Entry → Entry → Self → Type 0 };
 
-    /// Takes one entry. After an error it has taken none, but its device may have part of the entry's bytes. Once its
-    /// device has failed, a sink takes nothing more.
+    /// Takes one entry. After an error it has taken none, but its device may have a part. A failed sink takes no more.
     fn put(&mut self, entry: Entry) -> Result<(), SinkFault>
         requires { Fits (state self.old) entry }
         ensures took { OnOk result (took self.old (entry ∷ []) self.new) }
@@ -124,8 +123,7 @@ pub trait Sink {
         false
     }
 
-    /// Takes any list of `count` entries that leaves the state that its last entry leaves by itself. Returns false and
-    /// takes none if it needs the entries.
+    /// Takes any list of `count` entries that leaves the state of its last one; false, and none, if it needs them.
     fn put_alike(&mut self, count: usize, last: &Entry) -> bool
         ensures took { result ≡ true → (list : List Entry) → length list ≡ count → walk (state self.old) list ≡ after (state self.old) last.now → TakesAll (sink_model state wants failed took broke) list self.old self.new }
         ensures none { result ≡ false → self.new ≡ self.old }
@@ -153,9 +151,6 @@ pub struct ListSink {
 }
 
 impl Model for ListSink {
-    ghost use Rattle.std.specs.Prelude.{List};
-    ghost use Rattle.nap_list.specs.declared.entry.Entry.{Entry};
-
     ghost Value = { List Entry };
 
     ghost view = { λ s. s.list.items };

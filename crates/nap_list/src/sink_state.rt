@@ -10,7 +10,7 @@ use crate::attribute::Pen;
 use crate::batch::Batch;
 use crate::entry::Entry;
 use crate::shape::Shape;
-use crate::state::{Drawing, OpenDefinition, apply_effect};
+use crate::state::{Drawing, OpenDefinition, apply_entry};
 use std::marker::Model;
 
 /// The state that entries left. It takes no bytes, and its functions do nothing at run time.
@@ -23,50 +23,60 @@ impl Model for GhostState {
     ghost also_owns = { λ _. ftrue };
 }
 
+/// Entries, after the state that earlier ones left.
+#[derive(Drop)]
+enum Taken<'a> {
+    Nothing,
+    Entry(&'a GhostState, &'a Entry),
+    Shape(&'a GhostState, &'a Shape<'a>),
+    Part(&'a GhostState, &'a Batch<'a>, usize, usize),
+}
+
 impl GhostState {
+    ghost use Rattle.nap_list.specs.Taken.{state_left};
+
+    /// Returns the state that entries left.
+    #[inline(always)]
+    fn left_by(_taken: &Taken) -> GhostState
+        ensures { result.state ≡ state_left _taken.now }
+    {
+        GhostState {}
+    }
+
     /// Returns the state of the empty list.
     #[inline(always)]
     pub fn start() -> GhostState
         ensures { result.state ≡ start }
     {
-        GhostState {}
+        GhostState::left_by(&Taken::Nothing)
     }
 
     /// Returns the state after an entry.
     #[inline(always)]
-    pub fn after(&self, _entry: &Entry) -> GhostState
-        ensures { result.state ≡ after self.now.state _entry.now }
+    pub fn after(&self, entry: &Entry) -> GhostState
+        ensures { result.state ≡ after self.now.state entry.now }
     {
-        GhostState {}
+        GhostState::left_by(&Taken::Entry(self, entry))
     }
 
     /// Returns the state after the first entries of a batch.
     #[inline(always)]
-    pub fn after_first(&self, _batch: &Batch, _count: usize) -> GhostState
-        ensures { result.state ≡ walk self.now.state (take _count (batch_entries _batch.now)) }
+    pub fn after_first(&self, batch: &Batch, count: usize) -> GhostState
+        ensures { result.state ≡ walk self.now.state (take count (batch_entries batch.now)) }
     {
-        GhostState {}
-    }
-
-    /// Returns the state after `_count` entries of a batch from `_first`.
-    #[inline(always)]
-    pub fn after_part(&self, _batch: &Batch, _first: usize, _count: usize) -> GhostState
-        ensures { result.state ≡ walk self.now.state (take _count (drop _first (batch_entries _batch.now))) }
-    {
-        GhostState {}
+        GhostState::left_by(&Taken::Part(self, batch, 0, count))
     }
 
     /// Returns the state after a shape.
     #[inline(always)]
-    pub fn after_shape(&self, _shape: &Shape) -> GhostState
-        ensures { result.state ≡ after self.now.state (entry_of_shape _shape.now) }
+    pub fn after_shape(&self, shape: &Shape) -> GhostState
+        ensures { result.state ≡ after self.now.state (entry_of_shape shape.now) }
     {
-        GhostState {}
+        GhostState::left_by(&Taken::Shape(self, shape))
     }
 }
 
-/// The state that written entries left. What no writer reads, the last character and the known colours, is in proofs
-/// alone.
+/// The state that written entries left. What no writer reads of it is in proofs alone.
 #[derive(Drop)]
 pub struct WrittenState {
     drawing: Drawing,
@@ -108,8 +118,7 @@ impl WrittenState {
         requires { Fits self.old entry.now }
         ensures { self.new ≡ after self.old entry.now }
     {
-        self.drawing.apply_attributes(entry);
-        apply_effect(&mut self.drawing, &mut self.definition, entry);
+        apply_entry(&mut self.drawing, &mut self.definition, entry);
         self.left = self.left.after(entry);
     }
 
@@ -157,6 +166,6 @@ impl WrittenState {
             let _len = batch.len();
             self.drawing.pen = batch.pen_after(first + further);
         }
-        self.left = self.left.after_part(batch, first, count);
+        self.left = GhostState::left_by(&Taken::Part(&self.left, batch, first, count));
     }
 }

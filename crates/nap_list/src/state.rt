@@ -1,8 +1,8 @@
 //! The state that a list of entries leaves (PROFILE.md, The drawing state).
 ghost use Rattle.std.specs.Prelude.{◌≡◌, ◌↔◌, IsTrue, None, Some};
-ghost use Rattle.nap_list.specs.Entry.{attributes, ink_attributes, hand_attributes, colour_only};
+ghost use Rattle.nap_list.specs.Entry.{attributes, ink_attributes, colour_only};
 ghost use Rattle.nap_list.specs.Agreement.{AreCurrent};
-ghost use Rattle.nap_list.specs.State.{start_texture, start_text, start_drawing, start, corner, PenFits, ColourFits, TextureFits, AttributesFit, MayCome, Fits, with_attributes, with_pen, ink_of, hand_of, restored_drawing, reset, effect_on_drawing, definition_after, last_after, known_after, after};
+ghost use Rattle.nap_list.specs.State.{start_texture, start_text, start_drawing, start, corner, AttributesFit, MayCome, Fits, with_attributes, with_pen, ink_of, hand_of, reset, effect_on_drawing, definition_after, last_after, known_after, after};
 
 use crate::attribute::{
     Attributes, Base, CharSize, Colour, Hand, Ink, Origin, Pen, Preset, TextLook, Texture,
@@ -105,6 +105,7 @@ impl TextLook {
     }
 
     /// Whether these are the text attributes that are wanted.
+    #[inline(always)]
     pub fn is_look(&self, wanted: &TextLook) -> bool
         ensures { IsTrue result ↔ wanted.now ≡ self.now }
     {
@@ -152,41 +153,23 @@ impl Drawing {
         }
     }
 
-    fn pen_fits(&self, pen: Option<Pen>) -> bool
-        ensures { IsTrue result ↔ PenFits self.now.pen pen }
-    {
-        match pen {
-            Some(Pen::Start) => matches!(self.pen, Pen::Start),
-            Some(Pen::After) => matches!(self.pen, Pen::After),
-            Some(Pen::At(_)) | None => true,
-        }
-    }
-
-    fn colour_fits(&self, colour: Option<Colour>) -> bool
-        ensures { IsTrue result ↔ ColourFits self.now colour }
-    {
-        match colour {
-            Some(Colour::Own(origin)) => self.base == Base::Own(origin),
-            Some(Colour::ByReset(preset)) => self.colour == Colour::ByReset(preset),
-            _ => true,
-        }
-    }
-
-    fn texture_fits(&self, texture: Option<Texture>) -> bool
-        ensures { IsTrue result ↔ TextureFits self.now.texture texture }
-    {
-        match texture {
-            Some(Texture { mask: None, .. }) => self.texture.mask.is_none(),
-            _ => true,
-        }
-    }
-
     fn attributes_fit(&self, attributes: &Attributes) -> bool
         ensures { IsTrue result ↔ AttributesFit self.now attributes.now }
     {
-        self.pen_fits(attributes.pen)
-            && self.colour_fits(attributes.colour)
-            && self.texture_fits(attributes.texture)
+        let pen_fits = match attributes.pen {
+            Some(Pen::At(_)) | None => true,
+            Some(pen) => self.pen == pen,
+        };
+        let colour_fits = match attributes.colour {
+            Some(Colour::Own(origin)) => self.base == Base::Own(origin),
+            Some(Colour::ByReset(preset)) => self.colour == Colour::ByReset(preset),
+            _ => true,
+        };
+        let texture_fits = match attributes.texture {
+            Some(Texture { mask: None, .. }) => self.texture.mask.is_none(),
+            _ => true,
+        };
+        pen_fits && colour_fits && texture_fits
     }
 
     /// Whether a colour is current; a direct colour has to be the colour of mode 0 too.
@@ -206,12 +189,6 @@ impl Drawing {
         self.pel == ink.pel && self.texture == ink.texture && self.is_current_colour(ink.colour)
     }
 
-    fn is_current_hand(&self, hand: &Hand) -> bool
-        ensures { IsTrue result ↔ AreCurrent (hand_attributes hand.now) self.now }
-    {
-        self.pen == hand.pen && self.text.is_look(&hand.text) && self.is_current_colour(hand.colour)
-    }
-
     /// Whether all attributes that an entry holds are current, so that it needs no prelude. Builds no `Attributes`.
     pub fn is_current(&self, entry: &Entry) -> bool
         ensures { IsTrue result ↔ AreCurrent (attributes entry.now) self.now }
@@ -222,8 +199,11 @@ impl Drawing {
             | Entry::Arc { ink, .. }
             | Entry::Rect { ink, .. }
             | Entry::Poly { ink, .. } => self.is_current_ink(ink),
-            Entry::Char { hand, .. } | Entry::TextMove { hand, .. } | Entry::ToEol { hand } =>
-                self.is_current_hand(hand),
+            Entry::Char { hand, .. } | Entry::TextMove { hand, .. } | Entry::ToEol { hand } => {
+                self.pen == hand.pen
+                    && self.text.is_look(&hand.text)
+                    && self.is_current_colour(hand.colour)
+            }
             Entry::Blink { colour, .. }
             | Entry::BlinkEnd { colour }
             | Entry::BlinkMark { colour, .. } => self.is_current_colour(*colour),
@@ -259,18 +239,9 @@ impl Drawing {
         self.apply_colour(&ink.colour);
     }
 
-    #[inline(always)]
-    fn apply_hand(&mut self, hand: &Hand)
-        ensures { self.new ≡ with_attributes self.old (hand_attributes hand.now) }
-    {
-        self.pen = hand.pen;
-        self.text = hand.text;
-        self.apply_colour(&hand.colour);
-    }
-
     /// Makes the attributes of an entry current.
     #[inline(always)]
-    pub(crate) fn apply_attributes(&mut self, entry: &Entry)
+    fn apply_attributes(&mut self, entry: &Entry)
         ensures { self.new ≡ with_attributes self.old (attributes entry.now) }
     {
         match entry {
@@ -283,7 +254,9 @@ impl Drawing {
             | Entry::Rect { ink, .. }
             | Entry::Poly { ink, .. } => self.apply_ink(ink),
             Entry::Char { hand, .. } | Entry::TextMove { hand, .. } | Entry::ToEol { hand } => {
-                self.apply_hand(hand);
+                self.pen = hand.pen;
+                self.text = hand.text;
+                self.apply_colour(&hand.colour);
             }
             Entry::Blink { colour, .. }
             | Entry::BlinkEnd { colour }
@@ -301,40 +274,29 @@ impl Drawing {
     {
         let (first, second) = (first.get(), second.get());
         let code = first / 2 % 4;
-        *self = Drawing {
-            pen: Pen::After,
-            pel: if first % 2 == 1 {
-                Move::zero()
-            } else {
-                self.pel
-            },
-            base: if code == 1 {
-                Base::Own(Origin::AfterReset)
-            } else {
-                self.base
-            },
-            colour: match code {
-                1 => Colour::Own(Origin::AfterReset),
-                2 => Colour::ByReset(Preset::Two),
-                3 => Colour::ByReset(Preset::Three),
-                _ => self.colour,
-            },
-            texture: if second / 8 % 2 == 1 {
-                Texture::start()
-            } else {
-                self.texture
-            },
-            text: if second % 2 == 1 {
-                TextLook::start()
-            } else {
-                self.text
-            },
+        self.pen = Pen::After;
+        if first % 2 == 1 {
+            self.pel = Move::zero();
+        }
+        if code == 1 {
+            self.base = Base::Own(Origin::AfterReset);
+        }
+        self.colour = match code {
+            1 => Colour::Own(Origin::AfterReset),
+            2 => Colour::ByReset(Preset::Two),
+            3 => Colour::ByReset(Preset::Three),
+            _ => self.colour,
         };
+        if second / 8 % 2 == 1 {
+            self.texture = Texture::start();
+        }
+        if second % 2 == 1 {
+            self.text = TextLook::start();
+        }
     }
 }
 
-/// Returns the position of the pen after a rectangle between two opposite corners: the x of the second and the y of the
-/// first.
+/// Returns the position of the pen after a rectangle: the x of its second corner and the y of its first.
 #[inline]
 pub fn corner(from: Point, to: Point) -> Point
     ensures { result ≡ corner from to }
@@ -372,8 +334,7 @@ impl State {
     {
         match entry {
             Entry::ToEol { .. } => self.last.is_some(),
-            Entry::GlyphStart(_) => self.definition.is_none(),
-            Entry::MaskStart(_) => self.definition.is_none(),
+            Entry::GlyphStart(_) | Entry::MaskStart(_) => self.definition.is_none(),
             Entry::DefEnd => self.definition.is_some(),
             Entry::Map { addr, grb } => !self.known.has(*addr, *grb),
             _ => true,
@@ -389,36 +350,25 @@ impl State {
             && self.may_come(entry)
     }
 
-    /// Applies the effect of an entry to the attributes and the open definition.
-    #[inline(always)]
-    fn apply_effect(&mut self, entry: &Entry)
-        ensures { self.new ≡ record self.old { drawing = effect_on_drawing self.old.definition self.old.drawing entry.now; definition = definition_after self.old.definition self.old.drawing entry.now } }
-    {
-        apply_effect(&mut self.drawing, &mut self.definition, entry);
-    }
-
-    /// Applies the effect of an entry to the known colours.
-    #[inline(always)]
-    fn update_known(&mut self, entry: &Entry)
-        ensures { self.new ≡ record self.old { known = known_after self.old.known entry.now } }
-    {
-        match entry {
-            Entry::Map { addr, grb } => self.known.set(*addr, *grb),
-            Entry::Reset { first, .. } => self.known.reset(*first),
-            _ => {}
-        }
-    }
-
     /// Advances past an entry that fits.
     #[inline(always)]
     pub fn step(&mut self, entry: &Entry)
         requires { Fits self.old entry.now }
         ensures { self.new ≡ after self.old entry.now }
     {
-        self.drawing.apply_attributes(entry);
-        self.apply_effect(entry);
-        self.update_known(entry);
-        self.last = last_char(entry);
+        apply_entry(&mut self.drawing, &mut self.definition, entry);
+        self.last = None;
+        match entry {
+            Entry::Char { set, code, .. } => {
+                self.last = Some(LastChar {
+                    set: *set,
+                    code: *code,
+                });
+            }
+            Entry::Map { addr, grb } => self.known.set(*addr, *grb),
+            Entry::Reset { first, .. } => self.known.reset(*first),
+            _ => {}
+        }
     }
 
     /// Returns the state after an entry that fits.
@@ -429,19 +379,6 @@ impl State {
         let mut state = self.copy();
         state.step(entry);
         state
-    }
-}
-
-#[inline(always)]
-fn last_char(entry: &Entry) -> Option<LastChar>
-    ensures { result ≡ last_after entry.now }
-{
-    match entry {
-        Entry::Char { set, code, .. } => Some(LastChar {
-            set: *set,
-            code: *code,
-        }),
-        _ => None,
     }
 }
 
@@ -457,27 +394,17 @@ fn open_definition(drawing: &mut Drawing, definition: &mut Option<OpenDefinition
     drawing.pen = Pen::Start;
 }
 
-/// Ends the open definition, and restores the attributes.
-fn close_definition(drawing: &mut Drawing, definition: &mut Option<OpenDefinition>)
-    ensures drawing { drawing.new ≡ restored_drawing definition.old drawing.old }
-    ensures definition { definition.new ≡ None }
-{
-    if let Some(opened) = *definition {
-        *drawing = opened.saved;
-    }
-    *definition = None;
-}
-
-/// Applies the effect of an entry to the attributes and the open definition.
+/// Makes the attributes of an entry current, and applies its effect to the attributes and the open definition.
 #[inline(always)]
-pub(crate) fn apply_effect(
+pub(crate) fn apply_entry(
     drawing: &mut Drawing,
     definition: &mut Option<OpenDefinition>,
     entry: &Entry,
 )
-    ensures drawing { drawing.new ≡ effect_on_drawing definition.old drawing.old entry.now }
-    ensures definition { definition.new ≡ definition_after definition.old drawing.old entry.now }
+    ensures drawing { drawing.new ≡ (after (record start { drawing = drawing.old; definition = definition.old }) entry.now).drawing }
+    ensures definition { definition.new ≡ (after (record start { drawing = drawing.old; definition = definition.old }) entry.now).definition }
 {
+    drawing.apply_attributes(entry);
     match entry {
         Entry::Point { at, .. } => drawing.pen = Pen::At(*at),
         Entry::Line { to, .. } => drawing.pen = Pen::At(*to),
@@ -501,12 +428,12 @@ pub(crate) fn apply_effect(
         Entry::Map { addr, .. } => drawing.colour = Colour::Front(*addr),
         Entry::GlyphStart(code) => open_definition(drawing, definition, Definition::Glyph(*code)),
         Entry::MaskStart(mask) => open_definition(drawing, definition, Definition::Mask(*mask)),
-        Entry::DefEnd => close_definition(drawing, definition),
-        Entry::Blink { .. }
-        | Entry::BlinkEnd { .. }
-        | Entry::BlinkMark { .. }
-        | Entry::Wait(_)
-        | Entry::Bell
-        | Entry::Cursor(_) => {}
+        Entry::DefEnd => {
+            if let Some(opened) = *definition {
+                *drawing = opened.saved;
+            }
+            *definition = None;
+        }
+        _ => {}
     }
 }

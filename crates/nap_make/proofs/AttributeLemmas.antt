@@ -1,20 +1,23 @@
-use Rattle.nap_make.proofs.Common.{All, All-append, All-cons, All-weaker, AnyValue, Bool, BothFit, CharSize, Colour, ColourInRange, ColourKind, Components, Coordinates, Displacement, HasSixteenBitParts, IfSome, IsAddress, IsInRange, IsInSquare, IsNumbered, IsParsed, IsSigned, IsSome, IsWord, IsWritten, List, MaskInRange, None, Option, Origin, Pen, PenInRange, Preset, Size, SizeInRange, Some, SplitsAtByte, TextInRange, TextLook, TextModes, Texture, TextureInRange, WritesNone, [], ap, append_assoc, arith, codes, colour_text, cond, decimal, decimal_injective, false, flag_text, get_or, grb_text, kind_name, length, look_text, mask_size_text, modes_text, move_text, pair_text, pen_text, point_text, refl, signed_decimal, size_text, subst, sym, texture_text, true, ℕ, ℤ, ◌++◌, ◌<◌, ◌↔◌, ◌∙◌, ◌∷◌, ◌≡◌, ◌≢◌}
-use Rattle.nap_make.proofs.CutLemmas.{cut_text, Alike, Layout, Tells, alike_tell, both_tell, reads_tried}
-use Rattle.nap_make.proofs.NumberLemmas.{IsVisible, OfDigits, Spells, above, apart_below, both_spell, decimal_spells, signed_spells, signed_tells}
+use Rattle.nap_make.proofs.Common.{All, All-append, All-cons, All-weaker, AnyValue, Bool, BothFit, CharSize, Colour, ColourInRange, Components, Coordinates, Displacement, HasSixteenBitParts, IfSome, IsAddress, IsInRange, IsInSquare, IsNumbered, IsParsed, IsSigned, IsSome, IsWord, IsWritten, List, MaskInRange, Option, Origin, PenInRange, Preset, Size, SizeInRange, TextInRange, TextLook, TextModes, Texture, TextureInRange, WritesNone, [], ap, append_assoc, append_cancel_left, arith, codes, colour_text, cond, decimal, decimal_injective, flag_text, get_or, grb_text, length, look_text, mask_size_text, modes_text, move_text, pair_text, pen_text, point_text, refl, signed_decimal, size_text, subst, sym, texture_text, ℕ, ℤ, ◌++◌, ◌<◌, ◌^◌, ◌↔◌, ◌∙◌, ◌∷◌, ◌≡◌, ◌≢◌}
+use Rattle.nap_make.proofs.CutLemmas.{Alike, Layout, Tells, alike_tell, both_tell, reads_tried}
+use Rattle.nap_make.proofs.NumberLemmas.{IsVisible, OfDigits, Spells, above, both_spell, decimal_spells, signed_spells, signed_tells}
 
 -- Numbers separated by commas.
 
+before_comma : (n : ℕ) → n < 2 ^ 64 → All (λ x. x ≢ 44) (decimal n)
+before_comma n fits = decimal_spells (λ x. x ≢ 44) (λ d low high is. omega (arith, low, is)) n fits
+
 pub coordinates : Layout (λ n. n < 8388608) decimal 44 (λ n. n < 8388608) decimal
-coordinates = record { apart = λ n fits. decimal_spells (λ x. x ≢ 44) (λ d low high is. omega (arith, low, is)) n (omega (arith, fits)) }
+coordinates = record { apart = λ n fits. before_comma n (omega (arith, fits)) }
 
 pub word_pair : Layout IsWord decimal 44 IsWord decimal
-word_pair = record { apart = λ n fits. decimal_spells (λ x. x ≢ 44) (λ d low high is. omega (arith, low, is)) n (omega (arith, fits)) }
+word_pair = record { apart = λ n fits. before_comma n (omega (arith, fits)) }
 
 pub word_triple : Layout IsWord decimal 44 (BothFit IsWord IsWord) (pair_text decimal 44 decimal)
 word_triple = record { apart = word_pair.apart }
 
 pub addr_pair : Layout IsAddress decimal 44 IsAddress decimal
-addr_pair = record { apart = λ n fits. decimal_spells (λ x. x ≢ 44) (λ d low high is. omega (arith, low, is)) n (omega (arith, fits)) }
+addr_pair = record { apart = λ n fits. before_comma n (omega (arith, fits)) }
 
 pub signs : Layout IsSigned signed_decimal 44 IsSigned signed_decimal
 signs = record { apart = signed_spells (λ x. x ≢ 44) (λ d low high is. omega (arith, low, is)) (λ is. omega (arith, is)) }
@@ -25,11 +28,7 @@ pub point_pair : Alike (λ (p : Coordinates). (p.x, p.y)) IsInSquare point_text 
 point_pair = record { there = λ p fits. fits; back = λ p fits. fits; same = λ p. append_assoc (decimal p.x) (codes ",") (decimal p.y) }
 
 pub move_pair : Alike (λ (m : Displacement). (m.x, m.y)) IsInRange move_text (BothFit IsSigned IsSigned) (pair_text signed_decimal 44 signed_decimal)
-move_pair = record {
-  there = λ m fits. ((fits.0, fits.1), (fits.2, fits.3));
-  back = λ m fits. (fits.0.0, fits.0.1, fits.1.0, fits.1.1);
-  same = λ m. append_assoc (signed_decimal m.x) (codes ",") (signed_decimal m.y);
-}
+move_pair = grind (arith, append_assoc)
 
 -- a displacement that equals one with this text, tried whether it is in range
 pub move_tried : (xs : List ℕ) (m n : Displacement) (r : Option Displacement) → n ≡ m → IsWritten IsInRange move_text xs m → (IsSome r ↔ IsInRange n) → IfSome r (λ d. d ≡ n) →
@@ -73,105 +72,54 @@ from_right a b c d e = append_assoc (a ++ b ++ c) d e ∙ append_assoc (a ++ b) 
 -- Colours by their parts.
 
 pub part_pair : Layout (λ n. n < 65536) decimal 44 (λ n. n < 65536) decimal
-part_pair = record { apart = λ n fits. decimal_spells (λ x. x ≢ 44) (λ d low high is. omega (arith, low, is)) n (omega (arith, fits)) }
+part_pair = record { apart = λ n fits. before_comma n (omega (arith, fits)) }
 
 pub part_triple : Layout (λ n. n < 65536) decimal 44 (BothFit (λ n. n < 65536) (λ n. n < 65536)) (pair_text decimal 44 decimal)
 part_triple = record { apart = part_pair.apart }
 
 pub grb_triple : Alike (λ (c : Components). (c.g, (c.r, c.b))) HasSixteenBitParts grb_text (BothFit (λ n. n < 65536) (BothFit (λ n. n < 65536) (λ n. n < 65536))) (pair_text decimal 44 (pair_text decimal 44 decimal))
-grb_triple = record {
-  there = λ c fits. (fits.0, (fits.1, fits.2));
-  back = λ c fits. (fits.0, fits.1.0, fits.1.1);
-  same = λ c. from_right (decimal c.g) (codes ",") (decimal c.r) (codes ",") (decimal c.b);
-}
+grb_triple = grind (arith, from_right)
 
 -- Colours by their numbers.
 
--- no colour of this kind has these numbers
-abbrev pub NoNumbers : ColourKind → List ℕ → Type 0
-NoNumbers ColourKind.Direct more = WritesNone HasSixteenBitParts grb_text more
-NoNumbers ColourKind.Front more = WritesNone IsAddress decimal more
-NoNumbers ColourKind.Pair more = WritesNone (BothFit IsAddress IsAddress) (pair_text decimal 44 decimal) more
+-- the first letter of a colour
+abbrev pub letter_of : Colour → ℕ
+letter_of (Colour.Own origin) = 111
+letter_of (Colour.Direct grb) = 100
+letter_of (Colour.Front addr) = 102
+letter_of (Colour.Pair prefix back) = 112
+letter_of (Colour.ByReset preset) = 114
 
--- a text is that of a colour with numbers: what is before its colon, and what is after it
-abbrev pub HasKind : Colour → List ℕ → List ℕ → Type 0
-HasKind (Colour.Direct grb) name more = (name ≡ codes "direct") × (more ≡ grb_text grb)
-HasKind (Colour.Front addr) name more = (name ≡ codes "front") × (more ≡ decimal addr)
-HasKind (Colour.Pair prefix back) name more = (name ≡ codes "pair") × (more ≡ pair_text decimal 44 decimal (prefix, back))
-HasKind _ name more = ⊥
+pub first_letter : (c : Colour) → get_or (colour_text c) 0 0 ≡ letter_of c
+first_letter c = grind arith
 
-kind_apart : (k : ColourKind) → All (λ x. x ≢ 58) (kind_name k)
-kind_apart ColourKind.Direct = apart_below 58 58 (codes "direct") (omega arith) (above 58 (codes "direct") (omega arith))
-kind_apart ColourKind.Front = apart_below 58 58 (codes "front") (omega arith) (above 58 (codes "front") (omega arith))
-kind_apart ColourKind.Pair = apart_below 58 58 (codes "pair") (omega arith) (above 58 (codes "pair") (omega arith))
+pub no_direct : (bytes more : List ℕ) → bytes ≡ codes "direct:" ++ more → WritesNone HasSixteenBitParts grb_text more → WritesNone IsNumbered colour_text bytes
+no_direct bytes more is fits h also same = grind (arith, append_cancel_left, first_letter)
 
-pub has_kind : (bytes name more : List ℕ) (c : Colour) → SplitsAtByte 58 bytes name more → IsNumbered c → bytes ≡ colour_text c → HasKind c name more
-has_kind bytes name more (Colour.Direct grb) cut fits is = cut_text 58 bytes name more (codes "direct") (grb_text grb) cut (kind_apart ColourKind.Direct) is
-has_kind bytes name more (Colour.Front addr) cut fits is = cut_text 58 bytes name more (codes "front") (decimal addr) cut (kind_apart ColourKind.Front) is
-has_kind bytes name more (Colour.Pair prefix back) cut fits is =
-    cut_text 58 bytes name more (codes "pair") (pair_text decimal 44 decimal (prefix, back)) cut (kind_apart ColourKind.Pair)
-    (is ∙ ap (λ (s : List ℕ). codes "pair:" ++ s) (append_assoc (decimal prefix) (codes ",") (decimal back)))
-has_kind bytes name more _ cut fits is = absurd fits
+pub no_front : (bytes more : List ℕ) → bytes ≡ codes "front:" ++ more → WritesNone IsAddress decimal more → WritesNone IsNumbered colour_text bytes
+no_front bytes more is fits h also same = grind (arith, append_cancel_left, first_letter)
 
-pub no_colon : (bytes : List ℕ) → ((prefix back : List ℕ) → SplitsAtByte 58 bytes prefix back → ⊥) → WritesNone IsNumbered colour_text bytes
-no_colon bytes none (Colour.Direct grb) fits is = none (codes "direct") (grb_text grb) (record { joins = is; first = kind_apart ColourKind.Direct })
-no_colon bytes none (Colour.Front addr) fits is = none (codes "front") (decimal addr) (record { joins = is; first = kind_apart ColourKind.Front })
-no_colon bytes none (Colour.Pair prefix back) fits is = none (codes "pair") (decimal prefix ++ codes "," ++ decimal back) (record { joins = is; first = kind_apart ColourKind.Pair })
-no_colon bytes none _ fits is = fits
+pub no_pair : (bytes more : List ℕ) → bytes ≡ codes "pair:" ++ more → WritesNone (BothFit IsAddress IsAddress) (pair_text decimal 44 decimal) more → WritesNone IsNumbered colour_text bytes
+no_pair bytes more is none (Colour.Pair prefix back) fits also =
+    none (prefix, back) fits (append_cancel_left (codes "pair:") more (decimal prefix ++ codes "," ++ decimal back) (sym is ∙ also) ∙ append_assoc (decimal prefix) (codes ",") (decimal back))
+no_pair bytes more is none c fits also = let letter : letter_of c ≡ 112 = sym (first_letter c) ∙ ap (λ (s : List ℕ). get_or s 0 0) (sym also ∙ is) in omega (arith, letter)
 
-pub no_kind : (bytes name more : List ℕ) → SplitsAtByte 58 bytes name more → ((k : ColourKind) → name ≢ kind_name k) → WritesNone IsNumbered colour_text bytes
-no_kind bytes name more cut none c fits is = by c (has_kind bytes name more c cut fits is)
-  where
-    by : (c : Colour) → HasKind c name more → ⊥
-    by (Colour.Direct grb) has = none ColourKind.Direct has.0
-    by (Colour.Front addr) has = none ColourKind.Front has.0
-    by (Colour.Pair prefix back) has = none ColourKind.Pair has.0
-    by _ has = has
-
--- kinds with equal names are equal
-kinds_tell : (j k : ColourKind) → kind_name j ≡ kind_name k → j ≡ k
-kinds_tell ColourKind.Direct ColourKind.Direct is = refl
-kinds_tell ColourKind.Front ColourKind.Front is = refl
-kinds_tell ColourKind.Pair ColourKind.Pair is = refl
-kinds_tell _ _ is = cc
-
-pub no_numbers : (bytes name more : List ℕ) (k : ColourKind) → SplitsAtByte 58 bytes name more → name ≡ kind_name k → NoNumbers k more → WritesNone IsNumbered colour_text bytes
-no_numbers bytes name more k cut named none c fits is = by c fits (has_kind bytes name more c cut fits is)
-  where
-    at : (j : ColourKind) → name ≡ kind_name j → NoNumbers j more
-    at j also = subst (λ i. NoNumbers i more) (kinds_tell k j (sym named ∙ also)) none
-
-    by : (c : Colour) → IsNumbered c → HasKind c name more → ⊥
-    by (Colour.Direct grb) fits has = at ColourKind.Direct has.0 grb fits has.1
-    by (Colour.Front addr) fits has = at ColourKind.Front has.0 addr fits has.1
-    by (Colour.Pair prefix back) fits has = at ColourKind.Pair has.0 (prefix, back) fits has.1
-    by _ fits has = has
+pub no_key : (bytes : List ℕ) → ((more : List ℕ) → bytes ≢ codes "direct:" ++ more) → ((more : List ℕ) → bytes ≢ codes "front:" ++ more) → ((more : List ℕ) → bytes ≢ codes "pair:" ++ more) →
+    WritesNone IsNumbered colour_text bytes
+no_key bytes is fits h also same more = grind arith
 
 -- The four flags by their bytes.
 
 pub flag_byte : (on : Bool) (letter : ℕ) → flag_text on (letter ∷ []) ≡ cond on letter 45 ∷ []
-flag_byte true letter = refl
-flag_byte false letter = refl
+flag_byte on letter = grind arith
 
 pub modes_bytes : (m : TextModes) → modes_text m ≡ cond m.reverse 114 45 ∷ cond m.underline 117 45 ∷ cond m.wrap 119 45 ∷ cond m.scroll 115 45 ∷ []
 modes_bytes m = rw (flag_byte m.reverse 114, flag_byte m.underline 117, flag_byte m.wrap 119, flag_byte m.scroll 115) refl
 
 -- a byte that is neither the letter of a flag nor `-` is no flag's
-no_flag : (xs : List ℕ) (i letter : ℕ) (on : TextModes → Bool) → ((m : TextModes) → get_or (modes_text m) i 0 ≡ cond (on m) letter 45) →
+pub no_flag : (xs : List ℕ) (i letter : ℕ) (on : TextModes → Bool) → ((m : TextModes) → get_or (modes_text m) i 0 ≡ cond (on m) letter 45) →
     ((b : Bool) → get_or xs i 0 ∷ [] ≢ flag_text b (letter ∷ [])) → WritesNone AnyValue modes_text xs
 no_flag xs i letter on at none m fits is = none (on m) (ap (λ (x : ℕ). x ∷ []) (ap (λ (s : List ℕ). get_or s i 0) is ∙ at m) ∙ sym (flag_byte (on m) letter))
-
-pub no_reverse : (xs : List ℕ) → ((b : Bool) → get_or xs 0 0 ∷ [] ≢ flag_text b (114 ∷ [])) → WritesNone AnyValue modes_text xs
-no_reverse xs none = no_flag xs 0 114 (λ m. m.reverse) (λ m. ap (λ (s : List ℕ). get_or s 0 0) (modes_bytes m)) none
-
-pub no_underline : (xs : List ℕ) → ((b : Bool) → get_or xs 1 0 ∷ [] ≢ flag_text b (117 ∷ [])) → WritesNone AnyValue modes_text xs
-no_underline xs none = no_flag xs 1 117 (λ m. m.underline) (λ m. ap (λ (s : List ℕ). get_or s 1 0) (modes_bytes m)) none
-
-pub no_wrap : (xs : List ℕ) → ((b : Bool) → get_or xs 2 0 ∷ [] ≢ flag_text b (119 ∷ [])) → WritesNone AnyValue modes_text xs
-no_wrap xs none = no_flag xs 2 119 (λ m. m.wrap) (λ m. ap (λ (s : List ℕ). get_or s 2 0) (modes_bytes m)) none
-
-pub no_scroll : (xs : List ℕ) → ((b : Bool) → get_or xs 3 0 ∷ [] ≢ flag_text b (115 ∷ [])) → WritesNone AnyValue modes_text xs
-no_scroll xs none = no_flag xs 3 115 (λ m. m.scroll) (λ m. ap (λ (s : List ℕ). get_or s 3 0) (modes_bytes m)) none
 
 pub not_four : (xs : List ℕ) → length xs ≢ 4 → WritesNone AnyValue modes_text xs
 not_four xs other m fits is = other (ap (λ (s : List ℕ). length s) (is ∙ modes_bytes m))
@@ -186,23 +134,14 @@ flag_is x letter on is = ap (λ (s : List ℕ). get_or s 0 0) (is ∙ flag_byte 
 
 pub modes_written : (xs : List ℕ) (m : TextModes) → length xs ≡ 4 → get_or xs 0 0 ∷ [] ≡ flag_text m.reverse (114 ∷ []) → get_or xs 1 0 ∷ [] ≡ flag_text m.underline (117 ∷ []) →
     get_or xs 2 0 ∷ [] ≡ flag_text m.wrap (119 ∷ []) → get_or xs 3 0 ∷ [] ≡ flag_text m.scroll (115 ∷ []) → IsWritten AnyValue modes_text xs m
-modes_written xs m four r u w s =
-    let first = flag_is (get_or xs 0 0) 114 m.reverse r in
-    let second = flag_is (get_or xs 1 0) 117 m.underline u in
-    let third = flag_is (get_or xs 2 0) 119 m.wrap w in
-    let fourth = flag_is (get_or xs 3 0) 115 m.scroll s in
-    let bytes : get_or xs 0 0 ∷ get_or xs 1 0 ∷ get_or xs 2 0 ∷ get_or xs 3 0 ∷ [] ≡ cond m.reverse 114 45 ∷ cond m.underline 117 45 ∷ cond m.wrap 119 45 ∷ cond m.scroll 115 45 ∷ [] = cc in
-    record { fitting = tt; written = four_bytes xs four ∙ bytes ∙ sym (modes_bytes m) }
+modes_written xs m four r u w s = grind (arith, flag_is, four_bytes, modes_bytes)
 
 -- Text attributes by their parts.
 
 -- a text without a slash has none in its parts
 pub size_spells : (R : ℕ → Type 0) → OfDigits R → R 44 → R 45 → ((x : ℕ) → 96 < x → R x) → Spells R SizeInRange size_text
 size_spells R digit comma minus letter (CharSize.Named Size.Small) fits = All-weaker (λ x. 96 < x) R letter (codes "small") (above 96 (codes "small") (omega arith))
-size_spells R digit comma minus letter (CharSize.Named Size.Medium) fits = All-weaker (λ x. 96 < x) R letter (codes "medium") (above 96 (codes "medium") (omega arith))
-size_spells R digit comma minus letter (CharSize.Named Size.Normal) fits = All-weaker (λ x. 96 < x) R letter (codes "normal") (above 96 (codes "normal") (omega arith))
-size_spells R digit comma minus letter (CharSize.Named Size.Tall) fits = All-weaker (λ x. 96 < x) R letter (codes "tall") (above 96 (codes "tall") (omega arith))
-size_spells R digit comma minus letter (CharSize.Named Size.Double) fits = All-weaker (λ x. 96 < x) R letter (codes "double") (above 96 (codes "double") (omega arith))
+size_spells R digit comma minus letter (CharSize.Named n) fits = let name = size_text (CharSize.Named n) in All-weaker (λ x. 96 < x) R letter name (above 96 name (omega arith))
 size_spells R digit comma minus letter (CharSize.Given size) fits = move_spells R digit comma minus size fits
 
 words_spell : (R : ℕ → Type 0) → OfDigits R → R 44 → Spells R (BothFit IsWord IsWord) (pair_text decimal 44 decimal)
@@ -219,29 +158,17 @@ abbrev pub modes_of : TextLook → TextModes
 modes_of look = record { reverse = look.reverse; underline = look.underline; wrap = look.wrap; scroll = look.scroll }
 
 look_joined : (first second size modes : List ℕ) → first ++ codes "," ++ second ++ codes "/" ++ size ++ codes "/" ++ modes ≡ (first ++ 44 ∷ second) ++ 47 ∷ (size ++ 47 ∷ modes)
-look_joined first second size modes =
-    from_right (first ++ codes "," ++ second) (codes "/") size (codes "/") modes
-    ∙ ap (λ (s : List ℕ). s ++ 47 ∷ (size ++ 47 ∷ modes)) (append_assoc first (codes ",") second)
+look_joined first second size modes = grind (arith, from_right, append_assoc)
 
 pub look_triple : Alike (λ (t : TextLook). ((t.first, t.second), (t.size, modes_of t))) TextInRange look_text
     (BothFit (BothFit IsWord IsWord) (BothFit SizeInRange AnyValue)) (pair_text (pair_text decimal 44 decimal) 47 (pair_text size_text 47 modes_text))
-look_triple = record {
-  there = λ t fits. ((fits.first, fits.second), (fits.size, tt));
-  back = λ t fits. record { first = fits.0.0; second = fits.0.1; size = fits.1.0 };
-  same = λ t. look_joined (decimal t.first) (decimal t.second) (size_text t.size) (modes_text (modes_of t));
-}
+look_triple = grind (arith, look_joined)
 
 flag_visible : (on : Bool) (letter : ℕ) → 32 < letter → All IsVisible (flag_text on (letter ∷ []))
-flag_visible true letter high = above 32 (letter ∷ []) (high, tt)
-flag_visible false letter high = above 32 (codes "-") (omega arith)
+flag_visible on letter is = grind (arith, above)
 
 modes_visible : (m : TextModes) → All IsVisible (modes_text m)
-modes_visible m =
-    All-append IsVisible (flag_text m.reverse (codes "r") ++ flag_text m.underline (codes "u") ++ flag_text m.wrap (codes "w")) (flag_text m.scroll (codes "s"))
-    (All-append IsVisible (flag_text m.reverse (codes "r") ++ flag_text m.underline (codes "u")) (flag_text m.wrap (codes "w"))
-    (All-append IsVisible (flag_text m.reverse (codes "r")) (flag_text m.underline (codes "u")) (flag_visible m.reverse 114 (omega arith)) (flag_visible m.underline 117 (omega arith)))
-    (flag_visible m.wrap 119 (omega arith)))
-    (flag_visible m.scroll 115 (omega arith))
+modes_visible m = grind (arith, All-append, flag_visible)
 
 pub look_visible : Spells IsVisible TextInRange look_text
 look_visible t fits = rw (look_joined (decimal t.first) (decimal t.second) (size_text t.size) (modes_text (modes_of t)))
@@ -261,15 +188,10 @@ pub texture_parts : Layout IsWord decimal 47 MaskInRange mask_size_text
 texture_parts = record { apart = λ n fits. decimal_spells (λ x. x ≢ 47) (λ d low high is. omega (arith, low, is)) n (omega (arith, fits)) }
 
 pub texture_pair : Alike (λ (t : Texture). (t.word, t.mask)) TextureInRange texture_text (BothFit IsWord MaskInRange) (pair_text decimal 47 mask_size_text)
-texture_pair = record {
-  there = λ t fits. (fits.word, fits.mask);
-  back = λ t fits. record { word = fits.0; mask = fits.1 };
-  same = λ t. append_assoc (decimal t.word) (codes "/") (mask_size_text t.mask);
-}
+texture_pair = grind (arith, append_assoc)
 
 mask_visible : Spells IsVisible MaskInRange mask_size_text
-mask_visible None fits = above 32 (codes "none") (omega arith)
-mask_visible (Some size) fits = move_visible size fits
+mask_visible is fits = grind (arith, above, move_visible)
 
 pub texture_visible : Spells IsVisible TextureInRange texture_text
 texture_visible t fits = rw (append_assoc (decimal t.word) (codes "/") (mask_size_text t.mask))
@@ -286,7 +208,6 @@ grb_visible c fits = rw (from_right (decimal c.g) (codes ",") (decimal c.r) (cod
 
 pub colour_visible : Spells IsVisible ColourInRange colour_text
 colour_visible (Colour.Own Origin.AtStart) fits = above 32 (codes "own-start") (omega arith)
-colour_visible (Colour.Own Origin.AfterReset) fits = above 32 (codes "own-reset") (omega arith)
 colour_visible (Colour.Direct grb) fits = All-append IsVisible (codes "direct:") (grb_text grb) (above 32 (codes "direct:") (omega arith)) (grb_visible grb fits)
 colour_visible (Colour.Front addr) fits = All-append IsVisible (codes "front:") (decimal addr) (above 32 (codes "front:") (omega arith)) (number_visible addr fits)
 colour_visible (Colour.Pair prefix back) fits =
@@ -296,9 +217,7 @@ colour_visible (Colour.Pair prefix back) fits =
     (above 32 (codes ",") (omega arith)))
     (number_visible back fits.1)
 colour_visible (Colour.ByReset Preset.Two) fits = above 32 (codes "reset-2") (omega arith)
-colour_visible (Colour.ByReset Preset.Three) fits = above 32 (codes "reset-3") (omega arith)
+colour_visible colour fits = above 32 (colour_text colour) (omega arith)
 
 pub pen_visible : Spells IsVisible PenInRange pen_text
-pen_visible Pen.Start fits = above 32 (codes "start") (omega arith)
-pen_visible (Pen.At point) fits = point_visible point fits
-pen_visible Pen.After fits = above 32 (codes "after") (omega arith)
+pen_visible is fits = grind (arith, point_visible, above)

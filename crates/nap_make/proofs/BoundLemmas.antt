@@ -1,4 +1,4 @@
-use Rattle.nap_make.proofs.Common.{All, All-head, All-tail, AnyValue, BothFit, CharSet, CharSize, Colour, ColourInRange, Coordinates, CursorKind, Entry, Fields, HasSixteenBitParts, IsAddress, IsInRange, IsInSquare, IsPlainStep, IsProper, IsSigned, IsWord, Kind, List, Mask, MaskInRange, None, Option, Origin, Pen, PenInRange, Preset, Size, SizeInRange, Some, Sort, TextInRange, TextStep, TextureInRange, Value, [], ap, arith, codes, colour_text, cursor_text, decimal, field_text, fields_line, fields_of, fields_text, grb_text, inl, inr, kind_row, length, length-append, length-decimal-le, length_signed_le, line, line_name, look_text, mask_size_text, mask_text, modes_text, move_text, negsuc, pair_text, pen_text, point_text, points_before, pos, set_text, signed_decimal, size_text, step_text, texture_text, with_word, ℕ, ◌*◌, ◌++◌, ◌+◌, ◌<◌, ◌∷◌, ◌≡◌, ◌≤◌}
+use Rattle.nap_make.proofs.Common.{All, All-head, All-tail, AnyValue, BothFit, CharSet, ColourInRange, Coordinates, CursorKind, Entry, Fields, HasSixteenBitParts, IsAddress, IsInRange, IsInSquare, IsPlainStep, IsProper, IsSigned, IsWord, Kind, List, Mask, MaskInRange, None, Option, PenInRange, SizeInRange, Some, Sort, TextInRange, TextureInRange, Value, [], ap, arith, codes, colour_text, cursor_text, decimal, field_text, fields_line, fields_of, fields_text, grb_text, inl, inr, kind_row, length, length-append, length-decimal-le, length_signed_le, line, line_name, look_text, mask_size_text, mask_text, modes_text, move_text, negsuc, pair_text, pen_text, point_text, points_before, pos, set_text, signed_decimal, size_text, step_text, texture_text, with_word, ℕ, ◌*◌, ◌++◌, ◌+◌, ◌<◌, ◌∷◌, ◌≡◌, ◌≤◌}
 use Rattle.nap_make.proofs.AttributeLemmas.{texture_pair, texture_parts, grb_triple, part_pair, part_triple, look_parts, look_triple, modes_bytes, size_modes, coordinates, move_pair, point_pair, signs, word_pair, word_triple}
 use Rattle.nap_make.proofs.EntryLemmas.{FieldsFit, LineIs, PointsFit, fields_fit, line_is}
 use Rattle.nap_make.proofs.CutLemmas.{Alike, Layout}
@@ -12,19 +12,13 @@ abbrev pub AtMost : {V : Type 0} → ℕ → (V → Type 0) → (V → List ℕ)
 AtMost {V = V} n P f = (v : V) → P v → length (f v) ≤ n
 
 both_bound : {A B : Type 0} {P : A → Type 0} {f : A → List ℕ} {b : ℕ} {Q : B → Type 0} {g : B → List ℕ} (m n : ℕ) → Layout P f b Q g → AtMost m P f → AtMost n Q g → AtMost (m + 1 + n) (BothFit P Q) (pair_text f b g)
-both_bound {f = f} {b = b} {g = g} m n layout one two v fits =
-    let size : length (f v.0 ++ b ∷ g v.1) ≡ length (f v.0) + length (b ∷ g v.1) = length-append (f v.0) (b ∷ g v.1) in
-    omega (arith, size, one v.0 fits.0, two v.1 fits.1)
+both_bound {f = f} {b = b} {g = g} m n layout one two v fits = grind (arith, length-append)
 
 alike_bound : {V W : Type 0} {to : V → W} {P : V → Type 0} {f : V → List ℕ} {Q : W → Type 0} {g : W → List ℕ} (n : ℕ) → Alike to P f Q g → AtMost n Q g → AtMost n P f
-alike_bound {to = to} {f = f} {g = g} n alike few v fits =
-    let size : length (f v) ≡ length (g (to v)) = ap (λ (s : List ℕ). length s) (alike.same v) in
-    omega (arith, size, few (to v) (alike.there v fits))
+alike_bound {to = to} {f = f} {g = g} n alike few v fits = grind arith
 
 key_bound : {V : Type 0} (n : ℕ) (P : V → Type 0) (f : V → List ℕ) (key : List ℕ) → AtMost n P f → AtMost (length key + n) P (λ v. key ++ f v)
-key_bound n P f key few v fits =
-    let size : length (key ++ f v) ≡ length key + length (f v) = length-append key (f v) in
-    omega (arith, size, few v fits)
+key_bound n P f key few v fits = grind (arith, length-append)
 
 coordinate_bound : AtMost 7 (λ n. n < 8388608) decimal
 coordinate_bound n fits = length-decimal-le 7 n (omega arith) (omega (arith, fits)) (omega (arith, fits))
@@ -52,32 +46,19 @@ grb_bound : AtMost 17 HasSixteenBitParts grb_text
 grb_bound = alike_bound 17 grb_triple (both_bound 5 11 part_triple part_bound (both_bound 5 5 part_pair part_bound part_bound))
 
 colour_bound : AtMost 24 ColourInRange colour_text
-colour_bound (Colour.Own Origin.AtStart) fits = omega arith
-colour_bound (Colour.Direct grb) fits = key_bound 17 HasSixteenBitParts grb_text (codes "direct:") grb_bound grb fits
-colour_bound (Colour.Front addr) fits = omega (arith, key_bound 8 IsAddress decimal (codes "front:") addr_bound addr fits)
-colour_bound (Colour.Pair prefix back) fits =
-    let one : length (codes "pair:" ++ decimal prefix ++ codes "," ++ decimal back) ≡ length (codes "pair:" ++ decimal prefix ++ codes ",") + length (decimal back) = length-append (codes "pair:" ++ decimal prefix ++ codes ",") (decimal back) in
-    let two : length (codes "pair:" ++ decimal prefix ++ codes ",") ≡ length (codes "pair:" ++ decimal prefix) + 1 = length-append (codes "pair:" ++ decimal prefix) (codes ",") in
-    let three : length (codes "pair:" ++ decimal prefix) ≡ 5 + length (decimal prefix) = length-append (codes "pair:") (decimal prefix) in
-    omega (arith, one, two, three, addr_bound prefix fits.0, addr_bound back fits.1)
-colour_bound (Colour.ByReset Preset.Two) fits = omega arith
-colour_bound _ fits = omega arith
+colour_bound is fits = grind (arith, key_bound, grb_bound, addr_bound, length-append)
 
 mask_bound : AtMost 17 MaskInRange mask_size_text
-mask_bound None fits = omega arith
-mask_bound (Some size) fits = move_bound size fits
+mask_bound is fits = grind (arith, move_bound)
 
 texture_bound : AtMost 20 TextureInRange texture_text
 texture_bound = alike_bound 20 texture_pair (both_bound 2 17 texture_parts word_bound mask_bound)
 
 pen_bound : AtMost 15 PenInRange pen_text
-pen_bound (Pen.At point) fits = point_bound point fits
-pen_bound _ fits = omega arith
+pen_bound is fits = grind (arith, point_bound)
 
 size_bound : AtMost 17 SizeInRange size_text
-size_bound (CharSize.Named Size.Small) fits = omega arith
-size_bound (CharSize.Given size) fits = move_bound size fits
-size_bound _ fits = omega arith
+size_bound is fits = grind (arith, move_bound)
 
 modes_bound : AtMost 4 AnyValue modes_text
 modes_bound m any = let size : length (modes_text m) ≡ 4 = ap (λ (s : List ℕ). length s) (modes_bytes m) in omega (arith, size)
@@ -86,21 +67,16 @@ look_bound : AtMost 28 TextInRange look_text
 look_bound = alike_bound 28 look_triple (both_bound 5 22 look_parts (both_bound 2 2 word_pair word_bound word_bound) (both_bound 17 4 size_modes size_bound modes_bound))
 
 set_bound : (set : CharSet) → length (set_text set) ≤ 13
-set_bound CharSet.Primary = omega arith
-set_bound _ = omega arith
+set_bound set = grind arith
 
 step_bound : AtMost 3 IsPlainStep step_text
-step_bound (TextStep.Aps row column) fits = absurd fits
-step_bound TextStep.Apb fits = omega arith
-step_bound _ fits = omega arith
+step_bound is fits = grind arith
 
 cursor_bound : (state : CursorKind) → length (cursor_text state) ≤ 6
-cursor_bound CursorKind.Flash = omega arith
-cursor_bound _ = omega arith
+cursor_bound state = grind arith
 
 letter_bound : (mask : Mask) → length (mask_text mask) ≤ 1
-letter_bound Mask.A = omega arith
-letter_bound _ = omega arith
+letter_bound mask = grind arith
 
 -- Fields, rows and lines.
 
@@ -160,35 +136,24 @@ points_bound [] last fit = omega arith
 points_bound (p ∷ points) last fit = omega (arith, around (point_text p) (points_before points last) 32, point_bound p (All-head IsInSquare p points fit), points_bound points last (All-tail IsInSquare p points fit))
 
 name_bound : (k : Kind) → length (line_name k) ≤ 13
-name_bound Kind.Point = omega arith
-name_bound _ = omega arith
+name_bound k = grind arith
 
 word_bound_of : (k : Kind) (rest : List ℕ) → length (with_word k rest) ≤ 6 + length rest
-word_bound_of Kind.Position rest = omega arith
-word_bound_of _ rest = omega arith
+word_bound_of k rest = grind arith
 
 -- the fields of a kind without points, and those of a shape
 plain_bound : (k : Kind) → row_bound (kind_row k) ≤ 115
-plain_bound Kind.Point = omega arith
-plain_bound _ = omega arith
+plain_bound k = grind arith
 
 -- each kind has fields
 some_fields : (k : Kind) (vs : List Value) → AreOf (kind_row k) vs → 0 < length vs
-some_fields k (v ∷ vs) are = omega arith
-some_fields Kind.Point [] are = absurd are
-some_fields _ [] are = absurd are
+some_fields k vs is = grind arith
 
 shape_bound : (points : List Coordinates) (vs : List Value) → All IsInSquare points → length points ≤ 2001 → AreOf (kind_row Kind.ArcFilled) vs → length (points_before points (fields_text vs)) ≤ 32098
 shape_bound points vs inside few are = omega (arith, points_bound points (fields_text vs) inside, fields_below (kind_row Kind.ArcFilled) vs are (some_fields Kind.ArcFilled vs are), few)
 
 rest_bound : (k : Kind) (points : List Coordinates) (vs : List Value) → PointsFit k points → AreOf (kind_row k) vs → length (with_word k (points_before points (fields_text vs))) ≤ 32098
-rest_bound Kind.ArcOutlined points vs fit are = shape_bound points vs fit.0 fit.2 are
-rest_bound Kind.ArcFilled points vs fit are = shape_bound points vs fit.0 fit.2 are
-rest_bound Kind.PolyOutlined points vs fit are = shape_bound points vs fit.0 fit.2 are
-rest_bound Kind.PolyFilled points vs fit are = shape_bound points vs fit.0 fit.2 are
-rest_bound k points vs fit are =
-    let size : length (points_before points (fields_text vs)) ≡ length (fields_text vs) = ap (λ (ps : List Coordinates). length (points_before ps (fields_text vs))) fit in
-    omega (arith, size, word_bound_of k (points_before points (fields_text vs)), fields_below (kind_row k) vs are (some_fields k vs are), plain_bound k)
+rest_bound k points vs is fits = grind (arith, shape_bound, word_bound_of, fields_below, some_fields, plain_bound)
 
 -- no line of a well-made entry in range is longer than that of the longest polygon
 pub line_bounded : (e : Entry) → IsProper e → length (line e) ≤ 32112

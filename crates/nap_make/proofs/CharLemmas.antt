@@ -1,6 +1,6 @@
 -- Characters after text, one after another, and their lines.
 
-use Rattle.nap_make.proofs.Common.{All, All-head, All-map, All-tail, All-weaker, AllFit, CharLine, CharSet, Colour, ColourFits, Drawing, Entry, Fits, FollowsChar, Hand, IsCode, IsProper, List, None, Option, Pen, Some, State, TextStep, [], after, ap, append_assoc, arith, base_after, code_line, code_lines, code_text, drop, flat_map_more, format_effector, format_effector_front, hand_of, length, line, lines, map, refl, subst, sym, take, take-append-drop, text_entries, text_entries_in, text_entry_as, text_leaves, walk, ℕ, ◌++◌, ◌∙◌, ◌∷◌, ◌≡◌, ◌≢◌}
+use Rattle.nap_make.proofs.Common.{All, All-head, All-map, All-tail, All-weaker, AllFit, CharLine, CharSet, Colour, ColourFits, Drawing, Entry, Fits, FollowsChar, Hand, IsCode, IsProper, List, None, Option, Pen, Some, State, TextStep, [], after, ap, append_assoc, arith, base_after, code_line, code_lines, code_text, drop, flat_map_more, format_effector, format_effector_front, hand_of, length, line, lines, map, refl, subst, sym, take, text_entries, text_entries_in, text_entry_as, text_leaves, walk, ℕ, ◌++◌, ◌∙◌, ◌∷◌, ◌≡◌, ◌≢◌}
 
 -- the attributes of a character after text
 abbrev pub text_hand : Drawing → Hand
@@ -8,17 +8,11 @@ text_hand d = record (hand_of d) { pen = Pen.After }
 
 -- a code is no format effector
 plain_code : (code : ℕ) → IsCode code → format_effector code ≡ None
-plain_code code is_code = by (format_effector code) refl
-  where
-    by : (step : Option TextStep) → format_effector code ≡ step → format_effector code ≡ None
-    by None is = is
-    by (Some step) is = absurd (omega (arith, is_code.0, (format_effector_front code step is).0))
+plain_code code is_code = grind (arith, format_effector_front)
 
 -- a colour that fits does so again
 colour_again : (colour : Colour) (d t : Drawing) → t.base ≡ base_after d.base (Some colour) → t.colour ≡ colour → ColourFits d (Some colour) → ColourFits t (Some colour)
-colour_again (Colour.Own origin) d t base same fits = base ∙ fits
-colour_again (Colour.ByReset preset) d t base same fits = same
-colour_again _ d t base same fits = tt
+colour_again colour d t is fits h = grind arith
 
 module _ (set : CharSet) (d : Drawing) where
   abbrev char : ℕ → Entry
@@ -27,9 +21,7 @@ module _ (set : CharSet) (d : Drawing) where
   chars_are : (codes : List ℕ) → All IsCode codes → text_entries d Pen.After set codes ≡ map char codes
   unfolding text_entries_in
   chars_are [] all = refl
-  chars_are (code ∷ codes) all =
-      ap (λ (step : Option TextStep). text_entry_as step set (text_hand d) code ∷ text_entries d Pen.After set codes) (plain_code code (All-head IsCode code codes all))
-      ∙ ap (λ (es : List Entry). char code ∷ es) (chars_are codes (All-tail IsCode code codes all))
+  chars_are (code ∷ codes) all = grind (arith, plain_code, All-head, All-tail, chars_are codes (All-tail IsCode code codes all))
 
   pub no_text : (codes : List ℕ) → length codes ≡ 0 → text_entries d Pen.After set codes ≡ []
   unfolding text_entries_in
@@ -37,11 +29,7 @@ module _ (set : CharSet) (d : Drawing) where
   no_text (code ∷ codes) none = absurd (omega (arith, none))
 
   next_fits : (s : State) (code next : ℕ) → Fits s (char code) → IsCode next → Fits (after s (char code)) (char next)
-  next_fits s code next fits is_code = record {
-    values = record { pen = refl; colour = colour_again d.colour s.drawing (after s (char code)).drawing refl refl fits.values.colour; texture = tt };
-    made = is_code;
-    comes = tt;
-  }
+  next_fits s code next fits is_code = grind (arith, colour_again)
 
   chars_fit : (s : State) (code : ℕ) (codes : List ℕ) → Fits s (char code) → All IsCode codes → AllFit (after s (char code)) (map char codes)
   unfolding AllFit
@@ -75,10 +63,7 @@ module _ (set : CharSet) (d : Drawing) where
 
 module _ (l : CharLine) (s : State) (follows : FollowsChar l s) where
   its_hand : follows.line_is.hand ≡ text_hand s.drawing
-  its_hand =
-      let hand = follows.line_is.hand in
-      let made : s ≡ after follows.before (Entry.Char l.set follows.line_is.code hand) = follows.state ∙ ap (after follows.before) follows.line_is.entry_is in
-      ap (λ (pen : Pen). record hand { pen = pen }) follows.line_is.after_text ∙ sym (ap (λ (t : State). text_hand t.drawing) made)
+  its_hand = grind arith
 
   its_entry : follows.entry ≡ char l.set s.drawing follows.line_is.code
   its_entry = follows.line_is.entry_is ∙ ap (λ (hand : Hand). Entry.Char l.set follows.line_is.code hand) its_hand
@@ -90,9 +75,7 @@ module _ (l : CharLine) (s : State) (follows : FollowsChar l s) where
   its_state = sym (follows.state ∙ ap (after follows.before) its_entry)
 
   pub text_fits : (codes : List ℕ) → All IsCode codes → AllFit s (text_entries s.drawing Pen.After l.set codes)
-  text_fits codes all =
-      subst (AllFit s) (sym (chars_are l.set s.drawing codes all))
-      (subst (λ (t : State). AllFit t (map (char l.set s.drawing) codes)) its_state (chars_fit l.set s.drawing follows.before follows.line_is.code codes its_fit all))
+  text_fits codes all = grind (arith, chars_are, its_state, chars_fit, its_fit)
 
   pub last_fits : (code : ℕ) → IsCode code → Fits s (char l.set s.drawing code)
   last_fits code is_code = subst (λ (t : State). Fits t (char l.set s.drawing code)) its_state (next_fits l.set s.drawing follows.before follows.line_is.code code its_fit is_code)
@@ -109,9 +92,7 @@ module _ (l : CharLine) (s : State) (follows : FollowsChar l s) where
   text_defines codes all = ap (λ (es : List Entry). (walk s es).definition) (chars_are l.set s.drawing codes all) ∙ chars_define l.set s.drawing s codes
 
   pub text_lines : (codes : List ℕ) → All IsCode codes → lines (text_entries s.drawing Pen.After l.set codes) ≡ code_lines l codes
-  text_lines codes all =
-      ap lines (chars_are l.set s.drawing codes all)
-      ∙ lines_of_chars l.set s.drawing l codes (λ code. ap (λ (hand : Hand). line (Entry.Char l.set code hand)) (sym its_hand) ∙ follows.line_is.parts code)
+  text_lines codes all = grind (arith, chars_are, lines_of_chars, its_hand)
 
   -- the state after a text is that after its last character
   pub text_left : (codes front : List ℕ) (last : ℕ) → codes ≡ front ++ last ∷ [] → IsCode last → after s (char l.set s.drawing last) ≡ walk s (text_entries s.drawing Pen.After l.set codes)
@@ -122,11 +103,7 @@ module _ (l : CharLine) (s : State) (follows : FollowsChar l s) where
 
 pub one_line : (l : CharLine) (code : ℕ) (bytes digits others others2 others3 more : List ℕ) → bytes ≡ l.front.now ++ others → digits ≡ take 2 others → others2 ≡ drop 2 others → digits ≡ code_text code →
     others2 ≡ l.back.now ++ others3 → others3 ≡ 10 ∷ more → bytes ≡ code_line l code ++ more
-one_line l code bytes digits others others2 others3 more is first second written back end =
-    let digits_then : others ≡ code_text code ++ others2 = sym (take-append-drop 2 others) ∙ ap (λ (xs : List ℕ). take 2 others ++ xs) (sym second) ∙ ap (λ (xs : List ℕ). xs ++ others2) (sym first ∙ written) in
-    let back_then : others2 ≡ l.back.now ++ 10 ∷ more = back ∙ ap (λ (xs : List ℕ). l.back.now ++ xs) end in
-    is ∙ ap (λ (xs : List ℕ). l.front.now ++ xs) (digits_then ∙ ap (λ (xs : List ℕ). code_text code ++ xs) back_then)
-    ∙ sym (append_assoc l.front.now (code_text code ++ (l.back.now ++ 10 ∷ [])) more ∙ ap (λ (xs : List ℕ). l.front.now ++ (code_text code ++ xs)) (append_assoc l.back.now (10 ∷ []) more))
+one_line l code bytes digits others others2 others3 more is first second written back end = grind (arith, append_assoc)
 
 pub codes_more : (l : CharLine) (bytes codes rest more : List ℕ) (code : ℕ) → bytes ≡ code_lines l codes ++ rest → rest ≡ code_line l code ++ more → bytes ≡ code_lines l (codes ++ code ∷ []) ++ more
 codes_more l bytes codes rest more code is next =

@@ -1,25 +1,22 @@
-use Rattle.nap_make.proofs.Common.{All, All-append, All-cons, All-nil, BeginsLine, BeginsNoPoint, CharSet, CharSize, Colour, Coordinates, CursorKind, EndsPoints, EndsWithSpace, Entry, Err, Fields, FitsSort, HasFields, HasPoints, InSort, IsChosen, IsColumnAtName, IsFirstWrong, IsInSquare, IsNameAlone, IsPlace, IsProper, Kind, LineFault, List, Mask, MatchResult, None, Ok, Origin, Pen, Result, Size, Sort, SplitsAtByte, TellsColumn, TellsLine, TextStep, Value, WritesNone, [], ap, append-nil, append_assoc, arith, codes, false, field_text, fields_before, fields_text, get_or, inl, inr, kind_row, least_points, length, length-append, line, line_from, line_name, point_text, points_before, points_limit, pos, refl, subst, sym, with_word, ℕ, ◌++◌, ◌+◌, ◌-◌, ◌<◌, ◌∙◌, ◌∷◌, ◌≡◌, ◌≢◌, ◌≤◌, ◌⊎◌}
+use Rattle.nap_make.proofs.Common.{All, All-append, All-cons, All-nil, BeginsLine, BeginsNoPoint, CharSet, CharSize, Colour, Coordinates, CursorKind, EndsPoints, EndsWithSpace, Entry, Err, Fields, FitsSort, HasFields, HasPoints, InSort, IsChosen, IsColumnAtName, IsFirstWrong, IsInSquare, IsNameAlone, IsPlace, IsProper, Kind, LineFault, List, Mask, MatchResult, None, Ok, Origin, Pen, Result, Size, Sort, SplitsAtByte, TellsColumn, TellsLine, TextStep, Value, WritesNone, [], ap, append-nil, append_assoc, arith, codes, false, field_text, fields_before, fields_text, get_or, inl, inr, kind_row, least_points, length, length-append, line, line_from, line_name, point_text, points_before, points_limit, pos, refl, subst, sym, ℕ, ◌++◌, ◌+◌, ◌-◌, ◌<◌, ◌∙◌, ◌∷◌, ◌≡◌, ◌≢◌, ◌≤◌, ◌⊎◌}
 use Rattle.nap_make.proofs.CutLemmas.{cut_text, no_cut, one_cut, uncut}
-use Rattle.nap_make.proofs.EntryLemmas.{HasEntry, LineIs, line_is, plain_entry_with, same_entry, shape_entry_with}
-use Rattle.nap_make.proofs.LineLemmas.{IsReadAs, IsWrongAfter, alone_whole, fields_written, none_plain, none_shape, point_apart, points_append, points_join, read_or_alone, shape_fit, with_fields}
+use Rattle.nap_make.proofs.EntryLemmas.{HasEntry, line_is, plain_entry_with, same_entry, shape_entry_with}
+use Rattle.nap_make.proofs.LineLemmas.{IsReadAs, IsWrongAfter, alone_whole, fields_written, none_plain, none_shape, point_apart, points_append, points_join, read_or_alone, with_fields}
 use Rattle.nap_make.proofs.RowLemmas.{before_append, chosen_stays, first_stays, fits_append, line_append, name_apart, stays}
 
 -- The column of a fault.
+
+-- more bytes than one end with a space if those after the first do
+ends_behind : (b c : ℕ) (xs front : List ℕ) → b ∷ (c ∷ xs) ≡ front ++ 32 ∷ [] → EndsWithSpace (c ∷ xs)
+ends_behind b c xs [] is = absurd (let no : ⊥ = cc in no)
+ends_behind b c xs (x ∷ front) is = (front, (cc))
 
 -- bytes end with a space, are empty, or end with another byte
 space_last : (right more : List ℕ) → EndsWithSpace (right ++ more) → (more ≡ []) ⊎ EndsWithSpace more
 space_last [] more ends = inr ends
 space_last right [] ends = inl refl
-space_last (b ∷ []) (c ∷ more) ends = inr (by ends.0 ends.1)
-  where
-    by : (front : List ℕ) → b ∷ (c ∷ more) ≡ front ++ 32 ∷ [] → EndsWithSpace (c ∷ more)
-    by [] is = absurd (let no : ⊥ = cc in no)
-    by (x ∷ front) is = (front, (cc))
-space_last (b ∷ d ∷ right) more ends = space_last (d ∷ right) more (by ends.0 ends.1)
-  where
-    by : (front : List ℕ) → b ∷ d ∷ (right ++ more) ≡ front ++ 32 ∷ [] → EndsWithSpace (d ∷ (right ++ more))
-    by [] is = absurd (let no : ⊥ = cc in no)
-    by (x ∷ front) is = (front, (cc))
+space_last (b ∷ []) (c ∷ more) ends = inr (ends_behind b c more ends.0 ends.1)
+space_last (b ∷ d ∷ right) more ends = space_last (d ∷ right) more (ends_behind b d (right ++ more) ends.0 ends.1)
 
 -- the column where what is before it ends with a space and begins a line, and no line goes on with what is left up to a space
 pub tells_field : (bytes right left : List ℕ) (column : ℕ) → bytes ≡ right ++ left → column ≡ length right + 1 → EndsWithSpace right → BeginsLine right → WritesNone IsProper line bytes →
@@ -89,12 +86,7 @@ row_begins row rest left first =
 
 -- an entry whose line goes on so begins with this
 line_begins : (k : Kind) (points : List Coordinates) (vs : List Value) (front more : List ℕ) → HasEntry k points vs → points_before points (fields_text vs) ≡ front ++ more → BeginsLine (line_from k front)
-line_begins k points vs front more has is = record {
-  entry = has.entry;
-  more = more;
-  proper = has.proper;
-  begins = subst (LineIs has.entry) has.fields (line_is has.entry) ∙ ap (line_from k) is ∙ line_append k front more;
-}
+line_begins k points vs front more has is = grind (arith, line_is, line_append)
 
 -- Bytes before a field end with a space.
 
@@ -104,14 +96,12 @@ ends_after a b ends = (a ++ ends.0, ap (λ (s : List ℕ). a ++ s) ends.1 ∙ sy
 ends_fields : (front : List ℕ) (vs : List Value) → EndsWithSpace front → EndsWithSpace (front ++ fields_before vs [])
 ends_fields front [] ends = subst EndsWithSpace (sym (append-nil front)) ends
 ends_fields front (v ∷ vs) ends =
-    subst EndsWithSpace (append_assoc front (field_text v ++ 32 ∷ []) (fields_before vs []) ∙ ap (λ (s : List ℕ). front ++ s) (append_assoc (field_text v) (32 ∷ []) (fields_before vs [])))
-    (ends_fields (front ++ (field_text v ++ 32 ∷ [])) vs (ends_after front (field_text v ++ 32 ∷ []) (field_text v, refl)))
+    grind (arith, append_assoc, ends_after, ends_fields (front ++ (field_text v ++ 32 ∷ [])) vs (ends_after front (field_text v ++ 32 ∷ []) (field_text v, refl)))
 
 ends_points : (front : List ℕ) (points : List Coordinates) → EndsWithSpace front → EndsWithSpace (front ++ points_before points [])
 ends_points front [] ends = subst EndsWithSpace (sym (append-nil front)) ends
 ends_points front (p ∷ points) ends =
-    subst EndsWithSpace (append_assoc front (point_text p ++ 32 ∷ []) (points_before points []) ∙ ap (λ (s : List ℕ). front ++ s) (append_assoc (point_text p) (32 ∷ []) (points_before points [])))
-    (ends_points (front ++ (point_text p ++ 32 ∷ [])) points (ends_after front (point_text p ++ 32 ∷ []) (point_text p, refl)))
+    grind (arith, append_assoc, ends_after, ends_points (front ++ (point_text p ++ 32 ∷ [])) points (ends_after front (point_text p ++ 32 ∷ []) (point_text p, refl)))
 
 ends_kind : (k : Kind) → EndsWithSpace (line_from k [])
 ends_kind Kind.Position = (codes "MOVE APS", refl)
@@ -166,8 +156,7 @@ right_fields k points rest left (inl few) = []
 right_fields k points rest left (inr first) = first.1.values
 
 after_parts : (k : Kind) (points : List Coordinates) (rest left : List ℕ) → (wrong : IsWrongAfter k points rest left) → rest ≡ fields_before (right_fields k points rest left wrong) left
-after_parts k points rest left (inl few) = sym few.1
-after_parts k points rest left (inr first) = first.1.parts
+after_parts k points rest left wrong = grind arith
 
 -- what follows a space doesn't matter for them
 after_stays : (k : Kind) (points : List Coordinates) (rest left q r tail : List ℕ) → left ≡ q ++ 32 ∷ r → (wrong : IsWrongAfter k points rest left) →
@@ -195,8 +184,7 @@ three_inside : All IsInSquare three
 three_inside = All-cons IsInSquare corner (corner ∷ corner ∷ []) corner_inside (All-cons IsInSquare corner (corner ∷ []) corner_inside (All-cons IsInSquare corner [] corner_inside (All-nil IsInSquare)))
 
 least_small : (k : Kind) → least_points k ≤ 3
-least_small Kind.ArcOutlined = omega arith
-least_small _ = omega arith
+least_small k = grind arith
 
 -- points and right fields begin the line of a shape
 shape_begins : (k : Kind) (bytes : List ℕ) (points : List Coordinates) (rest left : List ℕ) → HasPoints k → EndsPoints bytes points rest → (wrong : IsWrongAfter k points rest left) →
@@ -204,13 +192,12 @@ shape_begins : (k : Kind) (bytes : List ℕ) (points : List Coordinates) (rest l
 shape_begins k bytes points rest left has ended (inl few) =
     let own = samples (kind_row k) in
     let size : length (points ++ three) ≡ length points + 3 = length-append points three in
-    let fit = shape_fit k (points ++ three) has (All-append IsInSquare points three ended.inside three_inside) (omega (arith, size, least_small k)) (omega (arith, size, few.0, least_small k)) in
-    line_begins k (points ++ three) own.0 (points_before points []) (points_before three (fields_text own.0)) (shape_entry_with k (points ++ three) own.0 has fit own.1)
+    line_begins k (points ++ three) own.0 (points_before points []) (points_before three (fields_text own.0))
+    (shape_entry_with k (points ++ three) own.0 has (All-append IsInSquare points three ended.inside three_inside) (omega (arith, size, least_small k)) (omega (arith, size, few.0, least_small k)) own.1)
     (points_join points three (fields_text own.0) ∙ points_append points [] (points_before three (fields_text own.0)))
 shape_begins k bytes points rest left has ended (inr first) =
     let own = row_begins (kind_row k) rest left first.1 in
-    let fit = shape_fit k points has ended.inside first.0 ended.few in
-    line_begins k points own.0 (points_before points (fields_before first.1.values [])) own.1 (shape_entry_with k points own.0 has fit own.2)
+    line_begins k points own.0 (points_before points (fields_before first.1.values [])) own.1 (shape_entry_with k points own.0 has ended.inside first.0 ended.few own.2)
     (ap (points_before points) (own.3 ∙ before_append first.1.values [] own.1) ∙ points_append points (fields_before first.1.values []) own.1)
 
 -- a wrong point or field of a shape
@@ -274,9 +261,7 @@ tells_alone bytes whole alone = (none, tells_first bytes none (λ q r tail is. a
 
 -- the entry of a line with a space has the line's first word for a name
 first_word : (name back : List ℕ) (e : Entry) → All (λ x. x ≢ 32) name → IsProper e → name ++ 32 ∷ back ≡ line e → (k : Kind) × (name ≡ line_name k)
-first_word name back e none proper is =
-    let has = with_fields e name back proper (sym is) in
-    (has.0.kind, (one_cut 32 name back (line_name has.0.kind) (with_word has.0.kind _) none (name_apart has.0.kind) (is ∙ has.1.line_so)).0)
+first_word name back e none proper is = grind (arith, with_fields, one_cut, name_apart)
 
 -- what is before the first of some spaces
 name_stays : (name back q r tail : List ℕ) → All (λ x. x ≢ 32) name → name ++ 32 ∷ back ≡ q ++ 32 ∷ r → (y : List ℕ) × (q ++ 32 ∷ tail ≡ name ++ 32 ∷ y)
@@ -350,9 +335,9 @@ plain_tells k vs rest (Err fault) plain fits is made = made_tells k [] vs rest (
 pub shape_tells : (k : Kind) (points : List Coordinates) (vs : List Value) (bytes rest : List ℕ) (r : Result Entry LineFault) → HasPoints k → EndsPoints bytes points rest → least_points k ≤ length points → FitsSort (kind_row k) vs →
     rest ≡ fields_text vs → MatchResult r (HasFields k points vs) (λ fault. (e : Entry) → HasPoints k → HasFields k points vs e → ⊥) → TellsLine (line_from k bytes) r
 shape_tells k points vs bytes rest (Ok e) has ended enough fits is made =
-    made_tells k points vs bytes (Ok e) (shape_entry_with k points vs has (shape_fit k points has ended.inside enough ended.few) fits) (ended.parts ∙ ap (points_before points) is) made
+    made_tells k points vs bytes (Ok e) (shape_entry_with k points vs has ended.inside enough ended.few fits) (ended.parts ∙ ap (points_before points) is) made
 shape_tells k points vs bytes rest (Err fault) has ended enough fits is made =
-    made_tells k points vs bytes (Err fault) (shape_entry_with k points vs has (shape_fit k points has ended.inside enough ended.few) fits) (ended.parts ∙ ap (points_before points) is) (λ e. made e has)
+    made_tells k points vs bytes (Err fault) (shape_entry_with k points vs has ended.inside enough ended.few fits) (ended.parts ∙ ap (points_before points) is) (λ e. made e has)
 
 -- what is left isn't longer than the line
 

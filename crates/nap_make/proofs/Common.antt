@@ -54,7 +54,7 @@ pub use Rattle.nap_list.specs.declared.state.OpenDefinition.{OpenDefinition}
 pub use Rattle.nap_list.specs.declared.state.State.{State}
 pub use Rattle.nap_make.specs.Cutting.{SplitsAtByte}
 pub use Rattle.nap_make.specs.Entries.{BeginsLine, BeginsWithSpace, EndsWithSpace, IsColumnAtName, IsEntryLine, IsNameAlone, IsPlace, IsProper, TellsColumn, TellsLine}
-pub use Rattle.nap_make.specs.Fields.{IsNumbered, IsPlainStep, MaskInRange, colour_field, kind_name, look_field, modes_text, pel_field, pen_field, texture_field}
+pub use Rattle.nap_make.specs.Fields.{IsNumbered, IsPlainStep, MaskInRange, colour_field, look_field, modes_text, pel_field, pen_field, texture_field}
 pub use Rattle.nap_make.specs.Kinds.{HasPoints, IsChosen, kind_row, least_points, line_from, line_name, with_word}
 pub use Rattle.nap_make.specs.Laws.{LineTellsEntry, LinesAreBounded, LinesHaveNoEnds, LinesTellLists, longest_line}
 pub use Rattle.nap_make.specs.ListMaking.{FeedsFrom, Finishes, HasReadLines, IsReady, IsUnendedLine, MakerHasPut, Makes, MakesList, MakesNoList, PutsLines, SinkTook, StopsLines, StopsLinesBy}
@@ -68,7 +68,6 @@ pub use Rattle.nap_make.specs.Rows.{BeginsNoPoint, EndsPoints, Fields, FitsSort,
 pub use Rattle.nap_make.specs.Runs.{FollowsChar, PutsEntries, TakesLines, code_line, code_lines, fault_of_sink}
 pub use Rattle.nap_make.specs.Sorts.{InSort, field_text}
 pub use Rattle.nap_make.specs.Texts.{DeniesInput, DeniesLines, fault_of_input, fault_of_text}
-pub use Rattle.nap_make.specs.declared.attribute.ColourKind.{ColourKind}
 pub use Rattle.nap_make.specs.declared.attribute.TextModes.{TextModes}
 pub use Rattle.nap_make.specs.declared.fault.LineFault.{LineFault}
 pub use Rattle.nap_make.specs.declared.field.Sort.{Sort}

@@ -1,15 +1,11 @@
-use Rattle.nap_make.proofs.Common.{All, Area, Coordinates, Entry, Fields, FitsSort, Hand, HandInRange, HasFields, HasPoints, Ink, IsInSquare, IsNameAlone, IsPlainStep, IsProper, Kind, List, None, Option, Some, TextStep, Value, [], ap, append_assoc, arith, code_text, codes, colour_field, colour_text, decimal, false, fields_line, fields_of, grb_text, hand_text, ink_text, inl, inr, kind_row, length, line, look_field, look_text, move_text, pel_field, pen_field, pen_text, point_text, points_before, points_limit, points_text, refl, set_text, step_text, subst, sym, texture_field, texture_text, true, ℕ, ◌++◌, ◌∙◌, ◌∷◌, ◌≡◌, ◌≤◌, ◌⊎◌}
+use Rattle.nap_make.proofs.Common.{All, Area, Coordinates, Entry, Fields, FitsSort, Hand, HandInRange, HasFields, HasPoints, Ink, IsInSquare, IsNameAlone, IsPlainStep, IsProper, Kind, List, None, Option, Some, TextStep, Value, [], ap, append_assoc, arith, code_text, codes, colour_field, colour_text, decimal, false, fields_line, fields_of, grb_text, hand_text, ink_text, inl, inr, kind_row, least_points, length, line, look_field, look_text, move_text, pel_field, pen_field, pen_text, point_text, points_before, points_limit, points_text, refl, set_text, step_text, subst, sym, texture_field, texture_text, true, ℕ, ◌++◌, ◌∙◌, ◌∷◌, ◌≡◌, ◌≤◌, ◌⊎◌}
 use Rattle.nap_make.proofs.AttributeLemmas.{from_right}
 
 -- The fields of an entry's line.
 
 pub points_spaced : (points : List Coordinates) (last : List ℕ) → points_text points ++ codes " " ++ last ≡ 32 ∷ points_before points last
 points_spaced [] last = refl
-points_spaced (p ∷ points) last =
-    ap (λ (s : List ℕ). 32 ∷ s)
-    (append_assoc (point_text p ++ points_text points) (codes " ") last
-    ∙ append_assoc (point_text p) (points_text points) (codes " " ++ last)
-    ∙ ap (λ (s : List ℕ). point_text p ++ s) (sym (append_assoc (points_text points) (codes " ") last) ∙ points_spaced points last))
+points_spaced (p ∷ points) last = grind (arith, append_assoc, points_spaced points last)
 
 pub ink_is : (i : Ink) → ink_text i ≡ pel_field i.pel ++ 32 ∷ (colour_field i.colour ++ 32 ∷ texture_field i.texture)
 ink_is i = ap (λ (s : List ℕ). codes "pel=" ++ s) (from_right (move_text i.pel) (codes " colour=") (colour_text i.colour) (codes " texture=") (texture_text i.texture))
@@ -53,7 +49,6 @@ line_is (Entry.ToEol hand) = ap (λ (s : List ℕ). codes "TO-EOL " ++ s) (hand_
 line_is (Entry.Map addr grb) = ap (λ (s : List ℕ). codes "MAP " ++ s) (append_assoc (decimal addr) (codes " ") (grb_text grb))
 line_is (Entry.Blink addr on off delay colour) = ap (λ (s : List ℕ). codes "BLINK " ++ s) (blink_is (decimal addr) (decimal on) (decimal off) (decimal delay) (colour_text colour))
 line_is (Entry.BlinkMark true colour) = refl
-line_is (Entry.BlinkMark false colour) = refl
 line_is Entry.Bell = inl refl
 line_is (Entry.Field Area.Whole pen) = refl
 line_is (Entry.Field (Area.Part from to) pen) = ap (λ (s : List ℕ). codes "FIELD " ++ s) (from_right (point_text from) (codes " ") (point_text to) (codes " pen=") (pen_text pen))
@@ -63,11 +58,7 @@ line_is _ = refl
 
 -- the points of a line of the kind
 abbrev pub PointsFit : Kind → List Coordinates → Type 0
-PointsFit Kind.ArcOutlined points = All IsInSquare points × (3 ≤ length points) × (length points ≤ points_limit)
-PointsFit Kind.ArcFilled points = All IsInSquare points × (3 ≤ length points) × (length points ≤ points_limit)
-PointsFit Kind.PolyOutlined points = All IsInSquare points × (2 ≤ length points) × (length points ≤ points_limit)
-PointsFit Kind.PolyFilled points = All IsInSquare points × (2 ≤ length points) × (length points ≤ points_limit)
-PointsFit _ points = points ≡ []
+PointsFit k points = (HasPoints k × All IsInSquare points × (least_points k ≤ length points) × (length points ≤ points_limit)) ⊎ ((HasPoints k → ⊥) × (points ≡ []))
 
 -- the fields of a proper entry's line
 pub record AreFields (f : Fields) : Type 0 where
@@ -79,31 +70,30 @@ FieldsFit None = Unit {0}
 FieldsFit (Some f) = AreFields f
 
 pub fields_fit : (e : Entry) → IsProper e → FieldsFit (fields_of e)
-fields_fit (Entry.Point at pel colour) proper = record { row = (proper.in_range.0, (proper.in_range.1, (proper.in_range.2, tt))); points = refl }
-fields_fit (Entry.Line from to ink) proper = record { row = (proper.in_range.0, (proper.in_range.1, (proper.in_range.2.pel, (proper.in_range.2.colour, (proper.in_range.2.texture, tt))))); points = refl }
-fields_fit (Entry.Arc true points ink) proper = record { row = (proper.in_range.1.pel, (proper.in_range.1.colour, (proper.in_range.1.texture, tt))); points = (proper.in_range.0, proper.well_made.0, proper.well_made.1) }
-fields_fit (Entry.Arc false points ink) proper = record { row = (proper.in_range.1.pel, (proper.in_range.1.colour, (proper.in_range.1.texture, tt))); points = (proper.in_range.0, proper.well_made.0, proper.well_made.1) }
-fields_fit (Entry.Rect true from to ink) proper = record { row = (proper.in_range.0, (proper.in_range.1, (proper.in_range.2.pel, (proper.in_range.2.colour, (proper.in_range.2.texture, tt))))); points = refl }
-fields_fit (Entry.Rect false from to ink) proper = record { row = (proper.in_range.0, (proper.in_range.1, (proper.in_range.2.pel, (proper.in_range.2.colour, (proper.in_range.2.texture, tt))))); points = refl }
-fields_fit (Entry.Poly true points ink) proper = record { row = (proper.in_range.1.pel, (proper.in_range.1.colour, (proper.in_range.1.texture, tt))); points = (proper.in_range.0, proper.well_made.0, proper.well_made.1) }
-fields_fit (Entry.Poly false points ink) proper = record { row = (proper.in_range.1.pel, (proper.in_range.1.colour, (proper.in_range.1.texture, tt))); points = (proper.in_range.0, proper.well_made.0, proper.well_made.1) }
-fields_fit (Entry.Char set code hand) proper = record { row = (tt, (proper.well_made, (proper.in_range.1.pen, (proper.in_range.1.colour, (proper.in_range.1.text, tt))))); points = refl }
-fields_fit (Entry.TextMove (TextStep.Aps row column) hand) proper = record { row = (proper.well_made.0, (proper.well_made.1, (proper.in_range.1.pen, (proper.in_range.1.colour, (proper.in_range.1.text, tt))))); points = refl }
-fields_fit (Entry.TextMove step hand) proper = record { row = (tt, (proper.in_range.1.pen, (proper.in_range.1.colour, (proper.in_range.1.text, tt)))); points = refl }
-fields_fit (Entry.ToEol hand) proper = record { row = (proper.in_range.pen, (proper.in_range.colour, (proper.in_range.text, tt))); points = refl }
-fields_fit (Entry.Map addr grb) proper = record { row = (proper.in_range.0, (proper.in_range.1, tt)); points = refl }
-fields_fit (Entry.Blink addr on off delay colour) proper = record { row = (proper.in_range.0, ((proper.in_range.1, proper.in_range.2, proper.in_range.3), (proper.in_range.4, tt))); points = refl }
-fields_fit (Entry.BlinkMark true colour) proper = record { row = (proper.in_range, tt); points = refl }
-fields_fit (Entry.BlinkMark false colour) proper = record { row = (proper.in_range, tt); points = refl }
+fields_fit (Entry.Point at pel colour) proper = record { row = (proper.in_range.0, (proper.in_range.1, (proper.in_range.2, tt))); points = inr (λ has. has, refl) }
+fields_fit (Entry.Line from to ink) proper = record { row = (proper.in_range.0, (proper.in_range.1, (proper.in_range.2.pel, (proper.in_range.2.colour, (proper.in_range.2.texture, tt))))); points = inr (λ has. has, refl) }
+fields_fit (Entry.Arc true points ink) proper = record { row = (proper.in_range.1.pel, (proper.in_range.1.colour, (proper.in_range.1.texture, tt))); points = inl (tt, proper.in_range.0, proper.well_made.0, proper.well_made.1) }
+fields_fit (Entry.Arc false points ink) proper = record { row = (proper.in_range.1.pel, (proper.in_range.1.colour, (proper.in_range.1.texture, tt))); points = inl (tt, proper.in_range.0, proper.well_made.0, proper.well_made.1) }
+fields_fit (Entry.Rect true from to ink) proper = record { row = (proper.in_range.0, (proper.in_range.1, (proper.in_range.2.pel, (proper.in_range.2.colour, (proper.in_range.2.texture, tt))))); points = inr (λ has. has, refl) }
+fields_fit (Entry.Rect false from to ink) proper = record { row = (proper.in_range.0, (proper.in_range.1, (proper.in_range.2.pel, (proper.in_range.2.colour, (proper.in_range.2.texture, tt))))); points = inr (λ has. has, refl) }
+fields_fit (Entry.Poly true points ink) proper = record { row = (proper.in_range.1.pel, (proper.in_range.1.colour, (proper.in_range.1.texture, tt))); points = inl (tt, proper.in_range.0, proper.well_made.0, proper.well_made.1) }
+fields_fit (Entry.Poly false points ink) proper = record { row = (proper.in_range.1.pel, (proper.in_range.1.colour, (proper.in_range.1.texture, tt))); points = inl (tt, proper.in_range.0, proper.well_made.0, proper.well_made.1) }
+fields_fit (Entry.Char set code hand) proper = record { row = (tt, (proper.well_made, (proper.in_range.1.pen, (proper.in_range.1.colour, (proper.in_range.1.text, tt))))); points = inr (λ has. has, refl) }
+fields_fit (Entry.TextMove (TextStep.Aps row column) hand) proper = record { row = (proper.well_made.0, (proper.well_made.1, (proper.in_range.1.pen, (proper.in_range.1.colour, (proper.in_range.1.text, tt))))); points = inr (λ has. has, refl) }
+fields_fit (Entry.TextMove step hand) proper = record { row = (tt, (proper.in_range.1.pen, (proper.in_range.1.colour, (proper.in_range.1.text, tt)))); points = inr (λ has. has, refl) }
+fields_fit (Entry.ToEol hand) proper = record { row = (proper.in_range.pen, (proper.in_range.colour, (proper.in_range.text, tt))); points = inr (λ has. has, refl) }
+fields_fit (Entry.Map addr grb) proper = record { row = (proper.in_range.0, (proper.in_range.1, tt)); points = inr (λ has. has, refl) }
+fields_fit (Entry.Blink addr on off delay colour) proper = record { row = (proper.in_range.0, ((proper.in_range.1, proper.in_range.2, proper.in_range.3), (proper.in_range.4, tt))); points = inr (λ has. has, refl) }
+fields_fit (Entry.BlinkMark true colour) proper = record { row = (proper.in_range, tt); points = inr (λ has. has, refl) }
 fields_fit Entry.Bell proper = tt
-fields_fit (Entry.Cursor state) proper = record { row = (tt, tt); points = refl }
-fields_fit (Entry.Field Area.Whole pen) proper = record { row = (proper.in_range.1, tt); points = refl }
-fields_fit (Entry.Field (Area.Part from to) pen) proper = record { row = (proper.in_range.0.0, (proper.in_range.0.1, (proper.in_range.1, tt))); points = refl }
-fields_fit (Entry.Reset first second pen) proper = record { row = (proper.in_range.0, (proper.in_range.1, (proper.in_range.2, tt))); points = refl }
-fields_fit (Entry.GlyphStart code) proper = record { row = (proper.well_made, tt); points = refl }
-fields_fit (Entry.MaskStart mask) proper = record { row = (tt, tt); points = refl }
+fields_fit (Entry.Cursor state) proper = record { row = (tt, tt); points = inr (λ has. has, refl) }
+fields_fit (Entry.Field Area.Whole pen) proper = record { row = (proper.in_range.1, tt); points = inr (λ has. has, refl) }
+fields_fit (Entry.Field (Area.Part from to) pen) proper = record { row = (proper.in_range.0.0, (proper.in_range.0.1, (proper.in_range.1, tt))); points = inr (λ has. has, refl) }
+fields_fit (Entry.Reset first second pen) proper = record { row = (proper.in_range.0, (proper.in_range.1, (proper.in_range.2, tt))); points = inr (λ has. has, refl) }
+fields_fit (Entry.GlyphStart code) proper = record { row = (proper.well_made, tt); points = inr (λ has. has, refl) }
+fields_fit (Entry.MaskStart mask) proper = record { row = (tt, tt); points = inr (λ has. has, refl) }
 fields_fit Entry.DefEnd proper = tt
-fields_fit _ proper = record { row = (proper.in_range, tt); points = refl }
+fields_fit _ proper = record { row = (proper.in_range, tt); points = inr (λ has. has, refl) }
 
 -- Entries of fields.
 
@@ -151,21 +141,20 @@ plain_entry_with Kind.Glyph (Value.Code code ∷ []) none fits = record { entry 
 plain_entry_with Kind.Mask (Value.Mask mask ∷ []) none fits = record { entry = Entry.MaskStart mask; fields = refl; proper = record { in_range = tt; well_made = tt } }
 plain_entry_with _ _ none fits = absurd (let no : ⊥ = search in no)
 
-pub shape_entry_with : (k : Kind) (points : List Coordinates) (vs : List Value) → HasPoints k → PointsFit k points → FitsSort (kind_row k) vs → HasEntry k points vs
-shape_entry_with Kind.ArcFilled points (Value.Pel pel ∷ Value.Colour colour ∷ Value.Texture texture ∷ []) has some fits =
-    record { entry = Entry.Arc true points (record { pel = pel; colour = colour; texture = texture }); fields = refl; proper = record { in_range = (some.0, record { pel = fits.0; colour = fits.1.0; texture = fits.1.1.0 }); well_made = (some.1, some.2) } }
-shape_entry_with Kind.ArcOutlined points (Value.Pel pel ∷ Value.Colour colour ∷ Value.Texture texture ∷ []) has some fits =
-    record { entry = Entry.Arc false points (record { pel = pel; colour = colour; texture = texture }); fields = refl; proper = record { in_range = (some.0, record { pel = fits.0; colour = fits.1.0; texture = fits.1.1.0 }); well_made = (some.1, some.2) } }
-shape_entry_with Kind.PolyFilled points (Value.Pel pel ∷ Value.Colour colour ∷ Value.Texture texture ∷ []) has some fits =
-    record { entry = Entry.Poly true points (record { pel = pel; colour = colour; texture = texture }); fields = refl; proper = record { in_range = (some.0, record { pel = fits.0; colour = fits.1.0; texture = fits.1.1.0 }); well_made = (some.1, some.2) } }
-shape_entry_with Kind.PolyOutlined points (Value.Pel pel ∷ Value.Colour colour ∷ Value.Texture texture ∷ []) has some fits =
-    record { entry = Entry.Poly false points (record { pel = pel; colour = colour; texture = texture }); fields = refl; proper = record { in_range = (some.0, record { pel = fits.0; colour = fits.1.0; texture = fits.1.1.0 }); well_made = (some.1, some.2) } }
-shape_entry_with _ _ _ has some fits = absurd (let no : ⊥ = search in no)
+pub shape_entry_with : (k : Kind) (points : List Coordinates) (vs : List Value) → HasPoints k → All IsInSquare points → least_points k ≤ length points → length points ≤ points_limit → FitsSort (kind_row k) vs → HasEntry k points vs
+shape_entry_with Kind.ArcFilled points (Value.Pel pel ∷ Value.Colour colour ∷ Value.Texture texture ∷ []) has inside least few fits =
+    record { entry = Entry.Arc true points (record { pel = pel; colour = colour; texture = texture }); fields = refl; proper = record { in_range = (inside, record { pel = fits.0; colour = fits.1.0; texture = fits.1.1.0 }); well_made = (least, few) } }
+shape_entry_with Kind.ArcOutlined points (Value.Pel pel ∷ Value.Colour colour ∷ Value.Texture texture ∷ []) has inside least few fits =
+    record { entry = Entry.Arc false points (record { pel = pel; colour = colour; texture = texture }); fields = refl; proper = record { in_range = (inside, record { pel = fits.0; colour = fits.1.0; texture = fits.1.1.0 }); well_made = (least, few) } }
+shape_entry_with Kind.PolyFilled points (Value.Pel pel ∷ Value.Colour colour ∷ Value.Texture texture ∷ []) has inside least few fits =
+    record { entry = Entry.Poly true points (record { pel = pel; colour = colour; texture = texture }); fields = refl; proper = record { in_range = (inside, record { pel = fits.0; colour = fits.1.0; texture = fits.1.1.0 }); well_made = (least, few) } }
+shape_entry_with Kind.PolyOutlined points (Value.Pel pel ∷ Value.Colour colour ∷ Value.Texture texture ∷ []) has inside least few fits =
+    record { entry = Entry.Poly false points (record { pel = pel; colour = colour; texture = texture }); fields = refl; proper = record { in_range = (inside, record { pel = fits.0; colour = fits.1.0; texture = fits.1.1.0 }); well_made = (least, few) } }
+shape_entry_with _ _ _ has inside least few fits = absurd (let no : ⊥ = search in no)
 
 -- a format effector of one byte
 pub step_fields : (step : TextStep) (hand : Hand) → IsPlainStep step → HasFields Kind.Move [] (Value.Step step ∷ Value.Pen hand.pen ∷ Value.Colour hand.colour ∷ Value.Look hand.text ∷ []) (Entry.TextMove step hand)
-step_fields (TextStep.Aps row column) hand plain = absurd plain
-step_fields step hand plain = refl
+step_fields step hand is = grind arith
 
 -- Entries are equal if their fields are.
 
@@ -202,21 +191,7 @@ MadeOf e None = (e ≡ Entry.Bell) ⊎ (e ≡ Entry.DefEnd)
 MadeOf e (Some f) = made f.kind f.points f.values ≡ e
 
 made_again : (e : Entry) → MadeOf e (fields_of e)
-made_again (Entry.Arc true points ink) = refl
-made_again (Entry.Arc false points ink) = refl
-made_again (Entry.Rect true from to ink) = refl
-made_again (Entry.Rect false from to ink) = refl
-made_again (Entry.Poly true points ink) = refl
-made_again (Entry.Poly false points ink) = refl
-made_again (Entry.TextMove (TextStep.Aps row column) hand) = refl
-made_again (Entry.TextMove step hand) = refl
-made_again (Entry.BlinkMark true colour) = refl
-made_again (Entry.BlinkMark false colour) = refl
-made_again Entry.Bell = inl refl
-made_again (Entry.Field Area.Whole pen) = refl
-made_again (Entry.Field (Area.Part from to) pen) = refl
-made_again Entry.DefEnd = inr refl
-made_again e = refl
+made_again e = grind arith
 
 pub same_entry : (e g : Entry) (k : Kind) (points : List Coordinates) (vs : List Value) → HasFields k points vs e → HasFields k points vs g → e ≡ g
 same_entry e g k points vs one two = sym (subst (MadeOf e) one (made_again e)) ∙ subst (MadeOf g) two (made_again g)

@@ -1,22 +1,10 @@
-use Rattle.nap_make.proofs.Common.{All, All-append, All-cons, All-head, All-nil, All-tail, All-take, All-weaker, BeginsLine, BeginsNoLine, BeginsWithSpace, Bool, Entry, Err, Ghosts, IfErr, InRange, IsEntryLine, IsPlace, IsProper, IsWritten, LineMaker, LineReader, LinesSoFar, List, MakeFault, None, Ok, OnOk, Result, SplitsAtByte, State, TakesLines, TellsColumn, WritesNone, [], ap, append-nil, append_assoc, arith, drop, eqb-false, eqb-true, false, get_or, inl, inr, length, length-append, line, lines, lines_join, longest_line, ltb-true, nat_lt, nat_tests, refl, subst, sym, take, take-append-drop, true, ℕ, ◌++◌, ◌+◌, ◌<◌, ◌==◌, ◌∙◌, ◌∷◌, ◌≡◌, ◌≢◌, ◌≤◌}
+use Rattle.nap_make.proofs.Common.{All, All-append, All-head, All-nil, All-tail, All-take, All-weaker, BeginsLine, BeginsNoLine, BeginsWithSpace, Bool, Entry, Err, Ghosts, IfErr, InRange, IsEntryLine, IsPlace, IsProper, IsWritten, LineMaker, LineReader, LinesSoFar, List, MakeFault, None, Ok, OnOk, Result, State, StopsLinesBy, TakesLines, TellsColumn, WritesNone, [], ap, append-nil, append_assoc, arith, drop, false, get_or, inr, length, length-append, line, lines, lines_join, longest_line, ltb-true, nat_lt, nat_tests, refl, subst, sym, take, take-append-drop, take-append_seam, true, ℕ, ◌++◌, ◌+◌, ◌<◌, ◌∙◌, ◌∷◌, ◌≡◌, ◌≢◌, ◌≤◌}
 use Rattle.nap_make.specs.ListMaking.{FeedsLines, Finishes, HasReadLines, IsReady, IsUnendedLine as CutsOff, KeepsPart, MakerHasPut, PutsEntry, SinkTook, StopsLines}
+use Rattle.nap_make.proofs.CutLemmas.{no_cut, one_cut}
 use Rattle.nap_make.proofs.NextEntryLemmas.{so_far_more}
 use Rattle.nap_make.proofs.PublicLaws.{lines_are_bounded, lines_have_no_ends}
 
 -- Bytes that no line begins with.
-
--- bytes without LF are followed by the first LF
-
-one_cut : (a b c d : List ℕ) → All (λ x. x ≢ 10) a → All (λ x. x ≢ 10) c → a ++ 10 ∷ b ≡ c ++ 10 ∷ d → a ≡ c
-one_cut [] b [] d none also is = refl
-one_cut [] b (y ∷ c) d none also is = absurd (All-head (λ z. z ≢ 10) y c also (cc))
-one_cut (x ∷ a) b [] d none also is = absurd (All-head (λ z. z ≢ 10) x a none (cc))
-one_cut (x ∷ a) b (y ∷ c) d none also is = let more = one_cut a b c d (All-tail (λ z. z ≢ 10) x a none) (All-tail (λ z. z ≢ 10) y c also) (cc) in cc
-
-no_cut : (a c d : List ℕ) → All (λ x. x ≢ 10) a → a ≡ c ++ 10 ∷ d → ⊥
-no_cut a [] d none is = All-head (λ x. x ≢ 10) 10 d (subst (λ (xs : List ℕ). All (λ x. x ≢ 10) xs) is none) refl
-no_cut [] (y ∷ c) d none is = let bad : ⊥ = cc in bad
-no_cut (x ∷ a) (y ∷ c) d none is = no_cut a c d (All-tail (λ z. z ≢ 10) x a none) (cc)
 
 -- no LF is inside bytes without one
 no_short : (a b c d : List ℕ) → All (λ x. x ≢ 10) a → length c < length a → a ++ b ≡ c ++ 10 ∷ d → ⊥
@@ -30,11 +18,11 @@ long_begins_none prefix more none long e rest proper is = no_short prefix more (
 
 -- bytes that are no line, and then LF, begin no line
 pub whole_begins_none : (bytes more : List ℕ) → All (λ x. x ≢ 10) bytes → WritesNone IsProper line bytes → BeginsNoLine (bytes ++ 10 ∷ more)
-whole_begins_none bytes more none writes e rest proper is = writes e proper (one_cut bytes more (line e) rest none (lines_have_no_ends e proper.in_range) is)
+whole_begins_none bytes more none writes e rest proper is = writes e proper (one_cut 10 bytes more (line e) rest none (lines_have_no_ends e proper.in_range) is).0
 
 -- bytes without LF begin no line with LF
 pub part_begins_none : (bytes : List ℕ) → All (λ x. x ≢ 10) bytes → BeginsNoLine bytes
-part_begins_none bytes none e rest proper is = no_cut bytes (line e) rest none is
+part_begins_none bytes none e rest proper is = no_cut 10 bytes (line e) rest none is
 
 -- no entry's line is longer than the longest line
 pub no_long_line : (bytes : List ℕ) (e : Entry) → IsWritten IsProper line bytes e → longest_line < length bytes → ⊥
@@ -49,23 +37,15 @@ not_less a b test = grind (arith, nat_tests, test)
 front_of : (left back m rest : List ℕ) → left ++ back ≡ m ++ rest → length m ≤ length left → (others : List ℕ) × (left ≡ m ++ others) × (rest ≡ others ++ back)
 front_of left back [] rest is less = (left, refl, sym is)
 front_of [] back (b ∷ m) rest is less = absurd (omega (arith, less))
-front_of (a ∷ left) back (b ∷ m) rest is less =
-    let found = front_of left back m rest (ap (λ (s : List ℕ). drop 1 s) is) (omega (arith, less)) in
-    (found.0, ap (λ (n : ℕ). n ∷ left) (ap (λ (s : List ℕ). get_or s 0 0) is) ∙ ap (λ (s : List ℕ). b ∷ s) found.1, found.2)
+front_of (a ∷ left) back (b ∷ m) rest is less = grind (arith, front_of left back m rest (ap (λ (s : List ℕ). drop 1 s) is) (omega (arith, less)))
 
 -- a place before some bytes is one before those and more
 place_goes : (right left back : List ℕ) → (IsEntryLine right → left ≡ [] → ⊥) → IsPlace right left → IsPlace right (left ++ back)
-place_goes right left back none (inl empty) = inl empty
-place_goes right left back none (inr (inl space)) = inr (inl space)
-place_goes right left back none (inr (inr (inl alone))) = inr (inr (inl (alone.0, (alone.1.0 ++ back, ap (λ (s : List ℕ). s ++ back) alone.1.1))))
-place_goes right left back none (inr (inr (inr whole))) = absurd (none whole.0 whole.1)
+place_goes right left back is fits = grind arith
 
 -- and the other way, if the first bytes are enough to tell
 place_comes : (right others back : List ℕ) → (BeginsWithSpace (others ++ back) → BeginsWithSpace others) → (others ++ back ≡ [] → ⊥) → IsPlace right (others ++ back) → IsPlace right others
-place_comes right others back space some (inl empty) = inl empty
-place_comes right others back space some (inr (inl ends)) = inr (inl ends)
-place_comes right others back space some (inr (inr (inl alone))) = inr (inr (inl (alone.0, space alone.1)))
-place_comes right others back space some (inr (inr (inr whole))) = absurd (some whole.1)
+place_comes right others back is fits h = grind arith
 
 -- the column of bytes is that of more, where what begins a line doesn't reach those
 column_goes : (bytes back : List ℕ) (column : ℕ) → (h : TellsColumn bytes column) → (IsEntryLine bytes → ⊥) → ((m : List ℕ) → BeginsLine (h.right ++ m) → (rest : List ℕ) → h.left ++ back ≡ m ++ rest → length m ≤ length h.left) →
@@ -97,11 +77,9 @@ begins_short prefix h =
 
 -- and has no LF
 begins_whole : (prefix : List ℕ) → BeginsLine prefix → All (λ x. x ≢ 10) prefix
-begins_whole prefix h = front prefix h.more (subst (λ (s : List ℕ). All (λ x. x ≢ 10) s) h.begins (lines_have_no_ends h.entry h.proper.in_range))
-  where
-    front : (xs ys : List ℕ) → All (λ x. x ≢ 10) (xs ++ ys) → All (λ x. x ≢ 10) xs
-    front [] ys all = All-nil (λ x. x ≢ 10)
-    front (x ∷ xs) ys all = All-cons (λ z. z ≢ 10) x xs (All-head (λ z. z ≢ 10) x (xs ++ ys) all) (front xs ys (All-tail (λ z. z ≢ 10) x (xs ++ ys) all))
+begins_whole prefix h =
+    let all = subst (All (λ x. x ≢ 10)) h.begins (lines_have_no_ends h.entry h.proper.in_range) in
+    subst (All (λ x. x ≢ 10)) (take-append_seam prefix h.more) (All-take (λ x. x ≢ 10) (length prefix) (prefix ++ h.more) all)
 
 -- the column of more bytes than a line may have is that of whatever they begin
 pub column_long : (prefix more : List ℕ) (column : ℕ) → longest_line < length prefix → TellsColumn prefix column → TellsColumn (prefix ++ more) column
@@ -171,19 +149,6 @@ one_column bytes c d one two = by (nat_lt (length one.right) (length two.right))
 
 -- Lines after those of the entries taken.
 
--- bytes that aren't split contain no LF
-pub uncut : (xs : List ℕ) → ((prefix back : List ℕ) → SplitsAtByte 10 xs prefix back → ⊥) → All (λ b. b ≢ 10) xs
-uncut [] none = All-nil (λ b. b ≢ 10)
-uncut (x ∷ xs) none = by (x == 10) refl (λ other.
-    uncut xs (λ prefix back cuts. none (x ∷ prefix) back (record {
-      joins = ap (λ (ys : List ℕ). x ∷ ys) cuts.joins;
-      first = All-cons (λ b. b ≢ 10) x prefix other cuts.first;
-    })))
-  where
-    by : (end : Bool) → (x == 10) ≡ end → (x ≢ 10 → All (λ b. b ≢ 10) xs) → All (λ b. b ≢ 10) (x ∷ xs)
-    by true is rest = let here : x ≡ 10 = eqb-true x 10 is in absurd (none [] xs (record { joins = ap (λ (b : ℕ). b ∷ xs) here; first = All-nil (λ b. b ≢ 10) }))
-    by false is rest = let other : x ≢ 10 = eqb-false x 10 is in All-cons (λ b. b ≢ 10) x xs other (rest other)
-
 -- a line with LF was refused, all of which is this
 abbrev pub RefusesLine : {S : Type 0} → Ghosts S → S → List Entry → List ℕ → LineMaker S → MakeFault → Type 0
 RefusesLine g s es bytes m (MakeFault.Line number column) = (number ≡ length es + 1) × ((more : List ℕ) → BeginsNoLine (bytes ++ 10 ∷ more) × TellsColumn (bytes ++ 10 ∷ more) column) × SinkTook g s es m.sink
@@ -194,16 +159,7 @@ module _ {S : Type 0} (g : Ghosts S) where
   -- a line that is too long
   keeps_long : (s : S) (es : List Entry) (m : LineMaker S) (bytes prefix more : List ℕ) (f : MakeFault) → bytes ≡ prefix ++ more → All (λ x. x ≢ 10) prefix → longest_line < length prefix →
       MakerHasPut g s es m → CutsOff es prefix f → KeepsPart g s es bytes m f
-  keeps_long s es m bytes prefix more (MakeFault.Line number column) parts none long holds h = (
-    h.0,
-    (let size = ap (λ (xs : List ℕ). length xs) parts in omega (arith, size, long, length-append prefix more)),
-    λ rest.
-        let same = sym (append_assoc prefix more rest) ∙ ap (λ (xs : List ℕ). xs ++ rest) (sym parts) in
-        (subst BeginsNoLine same (long_begins_none prefix (more ++ rest) none long), subst (λ (xs : List ℕ). TellsColumn xs column) same (column_long prefix (more ++ rest) column long h.1)),
-    holds.kept,
-  )
-  keeps_long s es m bytes prefix more MakeFault.Memory parts none long holds h = holds.kept
-  keeps_long s es m bytes prefix more _ parts none long holds h = absurd h
+  keeps_long s es m bytes prefix more f is fits h also same = grind (arith, length-append, append_assoc, long_begins_none, column_long)
 
   -- at most one byte more than a line may have is kept
   pub keeps_prefix : (s : S) (es : List Entry) (m : LineMaker S) (part bytes prefix : List ℕ) (kept : ℕ) (f : MakeFault) → prefix ≡ part ++ take kept bytes → All (λ x. x ≢ 10) part → All (λ x. x ≢ 10) bytes →
@@ -215,16 +171,11 @@ module _ {S : Type 0} (g : Ghosts S) where
 
   -- a line that was refused before its end
   pub part_refused : (s : S) (es : List Entry) (bytes : List ℕ) (m : LineMaker S) (f : MakeFault) → KeepsPart g s es bytes m f → RefusesLine g s es bytes m f
-  part_refused s es bytes m (MakeFault.Line number column) h = (h.0, λ more. h.2 (10 ∷ more), h.3)
-  part_refused s es bytes m MakeFault.Memory h = h
-  part_refused s es bytes m _ h = absurd h
+  part_refused s es bytes m f is = grind arith
 
   -- the entry of a line wasn't put
   pub entry_refused : (s : S) (es : List Entry) (bytes : List ℕ) (e : Entry) (m : LineMaker S) (f : MakeFault) → IsWritten IsProper line bytes e → PutsEntry g s es e m (Err f) → RefusesLine g s es bytes m f
-  entry_refused s es bytes e m MakeFault.Memory written h = h
-  entry_refused s es bytes e m (MakeFault.Misfit number) written h = (e, written, h)
-  entry_refused s es bytes e m MakeFault.Write written h = (e, written, h)
-  entry_refused s es bytes e m _ written h = absurd h
+  entry_refused s es bytes e m f is fits = grind arith
 
   -- the bytes after the last LF of a piece are kept
   pub ready_last : (old new : LineReader S) (rest : List ℕ) (r : Result (Unit {0}) MakeFault) → IsReady g old → All (λ b. b ≢ 10) rest → OnOk r (new.part.items ≡ old.part.items ++ rest) →
@@ -244,59 +195,40 @@ module _ {S : Type 0} (g : Ghosts S) where
     with_more : (q rest more : List ℕ) → q ≡ lines es ++ rest → q ++ more ≡ lines es ++ (rest ++ more)
     with_more q rest more parts = ap (λ (xs : List ℕ). xs ++ more) parts ∙ append_assoc (lines es) rest more
 
-    -- a line with LF, and more bytes
-    line_with_more : (bytes rest more : List ℕ) → (bytes ++ 10 ∷ rest) ++ more ≡ bytes ++ 10 ∷ (rest ++ more)
-    line_with_more bytes rest more = append_assoc bytes (10 ∷ rest) more
+    -- lines after those of these entries make no list
+    stops : (q rest : List ℕ) (m : LineMaker S) (f : MakeFault) → q ≡ lines es ++ rest → StopsLinesBy g s q es m.sink f → StopsLines g s q m.sink f
+    stops q rest m f parts why = record { entries = es; first = (rest, so_far q rest parts); why = why }
 
     -- a refused line with LF makes no list
     pub refused_stops : (q bytes rest : List ℕ) (m : LineMaker S) (f : MakeFault) → q ≡ lines es ++ (bytes ++ 10 ∷ rest) → RefusesLine g s es bytes m f → StopsLines g s q m.sink f
-    refused_stops q bytes rest m (MakeFault.Line number column) parts h = record {
-      entries = es;
-      first = (bytes ++ 10 ∷ rest, so_far q (bytes ++ 10 ∷ rest) parts);
-      why = (
-        λ more. record {
-          rest = bytes ++ 10 ∷ (rest ++ more);
-          so_far = so_far (q ++ more) (bytes ++ 10 ∷ (rest ++ more)) (with_more q (bytes ++ 10 ∷ rest) more parts ∙ ap (λ (xs : List ℕ). lines es ++ xs) (line_with_more bytes rest more));
-          place = h.0;
-          some = omega (arith, length-append bytes (10 ∷ (rest ++ more)));
-          none = (h.1 (rest ++ more)).0;
-          begins = (h.1 (rest ++ more)).1;
-        },
-        h.2,
-      );
-    }
-    refused_stops q bytes rest m (MakeFault.Misfit number) parts h = record {
-      entries = es;
-      first = (bytes ++ 10 ∷ rest, so_far q (bytes ++ 10 ∷ rest) parts);
-      why = (
-        λ more. record {
-          entry = h.0;
-          rest = rest ++ more;
-          so_far = so_far (q ++ more) (line h.0 ++ 10 ∷ (rest ++ more))
-              (with_more q (bytes ++ 10 ∷ rest) more parts ∙ ap (λ (xs : List ℕ). lines es ++ xs) (line_with_more bytes rest more ∙ ap (λ (xs : List ℕ). xs ++ 10 ∷ (rest ++ more)) h.1.written));
-          place = h.2.0;
-          proper = h.1.fitting;
-          misfit = h.2.1;
-        },
-        h.2.2,
-      );
-    }
-    refused_stops q bytes rest m (MakeFault.Open number opening) parts h = absurd h.2
-    refused_stops q bytes rest m MakeFault.Memory parts h = record { entries = es; first = (bytes ++ 10 ∷ rest, so_far q (bytes ++ 10 ∷ rest) parts); why = (λ more. ((bytes ++ 10 ∷ rest) ++ more, so_far (q ++ more) ((bytes ++ 10 ∷ rest) ++ more) (with_more q (bytes ++ 10 ∷ rest) more parts)), h) }
-    refused_stops q bytes rest m MakeFault.Write parts h = record {
-      entries = es;
-      first = (bytes ++ 10 ∷ rest, so_far q (bytes ++ 10 ∷ rest) parts);
-      why = (
-        h.0,
-        λ more. (
-          rest ++ more,
-          so_far_more (q ++ more) es h.0 (rest ++ more)
-              (so_far (q ++ more) (line h.0 ++ 10 ∷ (rest ++ more))
-              (with_more q (bytes ++ 10 ∷ rest) more parts ∙ ap (λ (xs : List ℕ). lines es ++ xs) (line_with_more bytes rest more ∙ ap (λ (xs : List ℕ). xs ++ 10 ∷ (rest ++ more)) h.1.written))) h.1.fitting h.2.0,
-        ),
-        h.2.1,
-      );
-    }
+    refused_stops q bytes rest m f parts h = stops q (bytes ++ 10 ∷ rest) m f parts (by f h)
+      where
+        -- the lines read, and more bytes
+        after_line : (more : List ℕ) → LinesSoFar (q ++ more) es (bytes ++ 10 ∷ (rest ++ more))
+        after_line more = so_far (q ++ more) (bytes ++ 10 ∷ (rest ++ more)) (with_more q (bytes ++ 10 ∷ rest) more parts ∙ ap (λ (xs : List ℕ). lines es ++ xs) (append_assoc bytes (10 ∷ rest) more))
+
+        after_entry : (e : Entry) (more : List ℕ) → bytes ≡ line e → LinesSoFar (q ++ more) es (line e ++ 10 ∷ (rest ++ more))
+        after_entry e more is = subst (λ (xs : List ℕ). LinesSoFar (q ++ more) es (xs ++ 10 ∷ (rest ++ more))) is (after_line more)
+
+        by : (f : MakeFault) → RefusesLine g s es bytes m f → StopsLinesBy g s q es m.sink f
+        by (MakeFault.Line number column) h = (
+          λ more. record {
+            rest = bytes ++ 10 ∷ (rest ++ more);
+            so_far = after_line more;
+            place = h.0;
+            some = omega (arith, length-append bytes (10 ∷ (rest ++ more)));
+            none = (h.1 (rest ++ more)).0;
+            begins = (h.1 (rest ++ more)).1;
+          },
+          h.2,
+        )
+        by (MakeFault.Misfit number) h = (
+          λ more. record { entry = h.0; rest = rest ++ more; so_far = after_entry h.0 more h.1.written; place = h.2.0; proper = h.1.fitting; misfit = h.2.1 },
+          h.2.2,
+        )
+        by (MakeFault.Open number opening) h = absurd h.2
+        by MakeFault.Memory h = (λ more. (bytes ++ 10 ∷ (rest ++ more), after_line more), h)
+        by MakeFault.Write h = (h.0, λ more. (rest ++ more, so_far_more (q ++ more) es h.0 (rest ++ more) (after_entry h.0 more h.1.written) h.1.fitting h.2.0), h.2.1)
 
     -- a line that no entry has makes no list
     pub line_stops : (bytes rest : List ℕ) (m : LineMaker S) (number column : ℕ) → All (λ x. x ≢ 10) bytes → number ≡ length es + 1 → WritesNone IsProper line bytes × TellsColumn bytes column → SinkTook g s es m.sink →
@@ -307,22 +239,19 @@ module _ {S : Type 0} (g : Ghosts S) where
 
     -- a refused part of a line makes no list
     pub keep_stops : (q bytes : List ℕ) (m : LineMaker S) (f : MakeFault) → q ≡ lines es ++ bytes → KeepsPart g s es bytes m f → StopsLines g s q m.sink f
-    keep_stops q bytes m (MakeFault.Line number column) parts h = record {
-      entries = es;
-      first = (bytes, so_far q bytes parts);
-      why = (
-        λ more. record {
-          rest = bytes ++ more;
-          so_far = so_far (q ++ more) (bytes ++ more) (with_more q bytes more parts);
-          place = h.0;
-          some = omega (arith, h.1, length-append bytes more);
-          none = (h.2 more).0;
-          begins = (h.2 more).1;
-        },
-        h.3,
-      );
-    }
-    keep_stops q bytes m MakeFault.Memory parts h = record { entries = es; first = (bytes, so_far q bytes parts); why = (λ more. (bytes ++ more, so_far (q ++ more) (bytes ++ more) (with_more q bytes more parts)), h) }
+    keep_stops q bytes m (MakeFault.Line number column) parts h =
+        stops q bytes m (MakeFault.Line number column) parts (
+          λ more. record {
+            rest = bytes ++ more;
+            so_far = so_far (q ++ more) (bytes ++ more) (with_more q bytes more parts);
+            place = h.0;
+            some = omega (arith, h.1, length-append bytes more);
+            none = (h.2 more).0;
+            begins = (h.2 more).1;
+          },
+          h.3,
+        )
+    keep_stops q bytes m MakeFault.Memory parts h = stops q bytes m MakeFault.Memory parts (λ more. (bytes ++ more, so_far (q ++ more) (bytes ++ more) (with_more q bytes more parts)), h)
     keep_stops q bytes m _ parts h = absurd h
 
     -- the lines end without LF
@@ -361,11 +290,7 @@ module _ {S : Type 0} (g : Ghosts S) where
 
   -- after the end of a line
   pub ended_ready : (r : LineReader S) → r.part.items ≡ [] → g.state r.maker.sink ≡ r.maker.state → IsReady g r
-  ended_ready r empty agrees = record {
-    agrees = agrees;
-    whole = subst (λ (xs : List ℕ). All (λ b. b ≢ 10) xs) (sym empty) (All-nil (λ b. b ≢ 10));
-    short = (let size = ap (λ (xs : List ℕ). length xs) empty in omega (arith, size));
-  }
+  ended_ready r empty agrees = grind (arith, All-nil)
 
   -- The bytes p were read up to a rest: the lines of these entries, and what is kept of one more.
   pub record HasReadTo (s : S) (p : List ℕ) (r : LineReader S) (rest : List ℕ) : Type 0 where
@@ -379,11 +304,7 @@ module _ {S : Type 0} (g : Ghosts S) where
   -- the bytes after the last LF of a piece were read, or make no list
   pub read_last : (s : S) (p rest : List ℕ) (old new : LineReader S) (r : Result (Unit {0}) MakeFault) → HasReadTo s p old rest → OnOk r (new.part.items ≡ old.part.items ++ rest) →
       OnOk r (new.maker ≡ old.maker) → IfErr r (λ f. (s : S) (es : List Entry) → MakerHasPut g s es old.maker → KeepsPart g s es (old.part.items ++ rest) new.maker f) → FeedsLines g s p new r
-  read_last s p rest old new (Ok ok) h part maker keeps = record {
-    entries = h.entries;
-    holds = subst (λ (m : LineMaker S). MakerHasPut g s h.entries m) (sym maker) h.holds;
-    parts = h.parts ∙ ap (λ (xs : List ℕ). lines h.entries ++ xs) (sym part);
-  }
+  read_last s p rest old new (Ok ok) h part maker keeps = grind arith
   read_last s p rest old new (Err f) h part maker keeps = keep_stops s h.entries old.maker h.holds p (old.part.items ++ rest) new.maker f h.parts (keeps s h.entries h.holds)
 
   -- the next lines of a piece

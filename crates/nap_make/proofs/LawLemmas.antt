@@ -1,4 +1,4 @@
-use Rattle.nap_make.proofs.Common.{All, All-append, All-cons, All-head, All-nil, All-tail, All-weaker, AllInRange, Area, BeginsNoPoint, ColourInRange, Coordinates, Entry, Fields, HasFields, HasPoints, InRange, IsInRange, IsInSquare, IsNameAlone, IsPlainStep, Kind, List, None, Option, PenInRange, Some, Sort, TextInRange, TextStep, TextureInRange, Value, [], ap, append_assoc, ap₂, arith, codes, colour_text, false, field_text, fields_line, fields_of, fields_text, get_or, inl, inr, kind_row, line, line_name, lines, look_text, move_text, pen_text, point_text, points_before, refl, step_text, subst, sym, texture_text, true, with_word, ℕ, ◌++◌, ◌<◌, ◌∙◌, ◌∷◌, ◌≡◌, ◌≢◌, ◌⊎◌}
+use Rattle.nap_make.proofs.Common.{All, All-append, All-cons, All-head, All-nil, All-tail, All-weaker, AllInRange, Area, BeginsNoPoint, ColourInRange, Coordinates, Entry, Fields, HasFields, HasPoints, InRange, IsInRange, IsInSquare, IsNameAlone, IsPlainStep, Kind, List, None, Option, PenInRange, Some, Sort, TextInRange, TextStep, TextureInRange, Value, [], ap, append_assoc, ap₂, arith, codes, colour_text, false, field_text, fields_line, fields_of, fields_text, inl, inr, kind_row, line, line_name, lines, look_text, move_text, pen_text, point_text, points_before, refl, step_text, subst, sym, texture_text, true, with_word, ℕ, ◌++◌, ◌<◌, ◌∙◌, ◌∷◌, ◌≡◌, ◌≢◌, ◌⊎◌}
 use Rattle.nap_make.proofs.CutLemmas.{no_cut, one_cut, Tells}
 use Rattle.nap_make.proofs.EntryLemmas.{LineIs, alone_is, line_is, same_entry}
 use Rattle.nap_make.proofs.RowLemmas.{name_visible, one_kind, AreOf, InType, field_visible, type_apart}
@@ -9,59 +9,43 @@ use Rattle.nap_make.proofs.TellLemmas.{addr_tells, code_tells, colour_tells, cur
 
 -- Entries in the ranges of their types, by the fields of their lines.
 
--- the points of a kind are in the unit screen, or there are none
+-- points in the unit screen, or none of a kind that has none
 abbrev pub PointsOf : Kind → List Coordinates → Type 0
-PointsOf Kind.ArcOutlined points = All IsInSquare points
-PointsOf Kind.ArcFilled points = All IsInSquare points
-PointsOf Kind.PolyOutlined points = All IsInSquare points
-PointsOf Kind.PolyFilled points = All IsInSquare points
-PointsOf _ points = points ≡ []
+PointsOf k points = All IsInSquare points × (HasPoints k ⊎ (points ≡ []))
 
 abbrev pub FieldsOf : Option Fields → Type 0
 FieldsOf None = Unit {0}
 FieldsOf (Some f) = AreOf (kind_row f.kind) f.values × PointsOf f.kind f.points
 
 pub fields_in_range : (e : Entry) → InRange e → FieldsOf (fields_of e)
-fields_in_range (Entry.Point at pel colour) fits = ((fits.0, (fits.1, (fits.2, tt))), refl)
-fields_in_range (Entry.Line from to ink) fits = ((fits.0, (fits.1, (fits.2.pel, (fits.2.colour, (fits.2.texture, tt))))), refl)
-fields_in_range (Entry.Arc true points ink) fits = ((fits.1.pel, (fits.1.colour, (fits.1.texture, tt))), fits.0)
-fields_in_range (Entry.Arc false points ink) fits = ((fits.1.pel, (fits.1.colour, (fits.1.texture, tt))), fits.0)
-fields_in_range (Entry.Rect true from to ink) fits = ((fits.0, (fits.1, (fits.2.pel, (fits.2.colour, (fits.2.texture, tt))))), refl)
-fields_in_range (Entry.Rect false from to ink) fits = ((fits.0, (fits.1, (fits.2.pel, (fits.2.colour, (fits.2.texture, tt))))), refl)
-fields_in_range (Entry.Poly true points ink) fits = ((fits.1.pel, (fits.1.colour, (fits.1.texture, tt))), fits.0)
-fields_in_range (Entry.Poly false points ink) fits = ((fits.1.pel, (fits.1.colour, (fits.1.texture, tt))), fits.0)
-fields_in_range (Entry.Char set code hand) fits = ((tt, (fits.0, (fits.1.pen, (fits.1.colour, (fits.1.text, tt))))), refl)
-fields_in_range (Entry.TextMove (TextStep.Aps row column) hand) fits = ((fits.0.0, (fits.0.1, (fits.1.pen, (fits.1.colour, (fits.1.text, tt))))), refl)
-fields_in_range (Entry.TextMove step hand) fits = ((tt, (fits.1.pen, (fits.1.colour, (fits.1.text, tt)))), refl)
-fields_in_range (Entry.ToEol hand) fits = ((fits.pen, (fits.colour, (fits.text, tt))), refl)
-fields_in_range (Entry.Map addr grb) fits = ((fits.0, (fits.1, tt)), refl)
-fields_in_range (Entry.Blink addr on off delay colour) fits = ((fits.0, ((fits.1, fits.2, fits.3), (fits.4, tt))), refl)
-fields_in_range (Entry.BlinkMark true colour) fits = ((fits, tt), refl)
-fields_in_range (Entry.BlinkMark false colour) fits = ((fits, tt), refl)
+fields_in_range (Entry.Point at pel colour) fits = ((fits.0, (fits.1, (fits.2, tt))), (All-nil IsInSquare, inr refl))
+fields_in_range (Entry.Line from to ink) fits = ((fits.0, (fits.1, (fits.2.pel, (fits.2.colour, (fits.2.texture, tt))))), (All-nil IsInSquare, inr refl))
+fields_in_range (Entry.Arc true points ink) fits = ((fits.1.pel, (fits.1.colour, (fits.1.texture, tt))), (fits.0, inl tt))
+fields_in_range (Entry.Arc false points ink) fits = ((fits.1.pel, (fits.1.colour, (fits.1.texture, tt))), (fits.0, inl tt))
+fields_in_range (Entry.Rect true from to ink) fits = ((fits.0, (fits.1, (fits.2.pel, (fits.2.colour, (fits.2.texture, tt))))), (All-nil IsInSquare, inr refl))
+fields_in_range (Entry.Rect false from to ink) fits = ((fits.0, (fits.1, (fits.2.pel, (fits.2.colour, (fits.2.texture, tt))))), (All-nil IsInSquare, inr refl))
+fields_in_range (Entry.Poly true points ink) fits = ((fits.1.pel, (fits.1.colour, (fits.1.texture, tt))), (fits.0, inl tt))
+fields_in_range (Entry.Poly false points ink) fits = ((fits.1.pel, (fits.1.colour, (fits.1.texture, tt))), (fits.0, inl tt))
+fields_in_range (Entry.Char set code hand) fits = ((tt, (fits.0, (fits.1.pen, (fits.1.colour, (fits.1.text, tt))))), (All-nil IsInSquare, inr refl))
+fields_in_range (Entry.TextMove (TextStep.Aps row column) hand) fits = ((fits.0.0, (fits.0.1, (fits.1.pen, (fits.1.colour, (fits.1.text, tt))))), (All-nil IsInSquare, inr refl))
+fields_in_range (Entry.TextMove step hand) fits = ((tt, (fits.1.pen, (fits.1.colour, (fits.1.text, tt)))), (All-nil IsInSquare, inr refl))
+fields_in_range (Entry.ToEol hand) fits = ((fits.pen, (fits.colour, (fits.text, tt))), (All-nil IsInSquare, inr refl))
+fields_in_range (Entry.Map addr grb) fits = ((fits.0, (fits.1, tt)), (All-nil IsInSquare, inr refl))
+fields_in_range (Entry.Blink addr on off delay colour) fits = ((fits.0, ((fits.1, fits.2, fits.3), (fits.4, tt))), (All-nil IsInSquare, inr refl))
+fields_in_range (Entry.BlinkMark true colour) fits = ((fits, tt), (All-nil IsInSquare, inr refl))
 fields_in_range Entry.Bell fits = tt
-fields_in_range (Entry.Cursor state) fits = ((tt, tt), refl)
-fields_in_range (Entry.Field Area.Whole pen) fits = ((fits.1, tt), refl)
-fields_in_range (Entry.Field (Area.Part from to) pen) fits = ((fits.0.0, (fits.0.1, (fits.1, tt))), refl)
-fields_in_range (Entry.Reset first second pen) fits = ((fits.0, (fits.1, (fits.2, tt))), refl)
-fields_in_range (Entry.MaskStart mask) fits = ((tt, tt), refl)
+fields_in_range (Entry.Cursor state) fits = ((tt, tt), (All-nil IsInSquare, inr refl))
+fields_in_range (Entry.Field Area.Whole pen) fits = ((fits.1, tt), (All-nil IsInSquare, inr refl))
+fields_in_range (Entry.Field (Area.Part from to) pen) fits = ((fits.0.0, (fits.0.1, (fits.1, tt))), (All-nil IsInSquare, inr refl))
+fields_in_range (Entry.Reset first second pen) fits = ((fits.0, (fits.1, (fits.2, tt))), (All-nil IsInSquare, inr refl))
+fields_in_range (Entry.MaskStart mask) fits = ((tt, tt), (All-nil IsInSquare, inr refl))
 fields_in_range Entry.DefEnd fits = tt
-fields_in_range _ fits = ((fits, tt), refl)
+fields_in_range _ fits = ((fits, tt), (All-nil IsInSquare, inr refl))
 
 -- Values with equal texts are equal.
 
 plain_tells : Tells IsPlainStep step_text
-plain_tells s t s_fits t_fits is = by s t s_fits t_fits (ap (λ (xs : List ℕ). get_or xs 2 0) is)
-  where
-    by : (s t : TextStep) → IsPlainStep s → IsPlainStep t → get_or (step_text s) 2 0 ≡ get_or (step_text t) 2 0 → s ≡ t
-    by (TextStep.Aps row column) t s_fits t_fits same = absurd s_fits
-    by s (TextStep.Aps row column) s_fits t_fits same = absurd t_fits
-    by TextStep.Apb TextStep.Apb s_fits t_fits same = refl
-    by TextStep.Apf TextStep.Apf s_fits t_fits same = refl
-    by TextStep.Apd TextStep.Apd s_fits t_fits same = refl
-    by TextStep.Apu TextStep.Apu s_fits t_fits same = refl
-    by TextStep.Apr TextStep.Apr s_fits t_fits same = refl
-    by TextStep.Aph TextStep.Aph s_fits t_fits same = refl
-    by s t s_fits t_fits same = absurd (omega (arith, same))
+plain_tells s t s_fits t_fits is = grind arith
 
 field_tells : (s : Sort) (v w : Value) → InType s v → InType s w → field_text v ≡ field_text w → v ≡ w
 field_tells Sort.Addr (Value.Addr a) (Value.Addr b) v_fits w_fits is = ap Value.Addr (addr_tells a b v_fits w_fits is)
@@ -103,30 +87,23 @@ points_tell (p ∷ ps) (q ∷ qs) a b one two none also is =
     let others = points_tell ps qs a b (All-tail IsInSquare p ps one) (All-tail IsInSquare q qs two) none also same.1 in
     (ap₂ (λ (x : Coordinates) (xs : List Coordinates). x ∷ xs) (point_tells p q p_fits q_fits same.0) others.0, others.1)
 
--- whether a kind has points
-points_or_none : (k : Kind) → (HasPoints k × ((ps : List Coordinates) → PointsOf k ps → All IsInSquare ps)) ⊎ ((ps : List Coordinates) → PointsOf k ps → ps ≡ [])
-points_or_none Kind.ArcOutlined = inl (tt, λ ps of. of)
-points_or_none Kind.ArcFilled = inl (tt, λ ps of. of)
-points_or_none Kind.PolyOutlined = inl (tt, λ ps of. of)
-points_or_none Kind.PolyFilled = inl (tt, λ ps of. of)
-points_or_none k = inr (λ ps of. of)
-
 fields_same : (k : Kind) (ps qs : List Coordinates) (vs us : List Value) → PointsOf k ps → PointsOf k qs → AreOf (kind_row k) vs → AreOf (kind_row k) us → points_before ps (fields_text vs) ≡ points_before qs (fields_text us) → (ps ≡ qs) × (vs ≡ us)
-fields_same k ps qs vs us one two vs_are us_are is = by (points_or_none k)
+fields_same k ps qs vs us one two vs_are us_are is = by one.1 two.1
   where
-    by : (HasPoints k × ((ps : List Coordinates) → PointsOf k ps → All IsInSquare ps)) ⊎ ((ps : List Coordinates) → PointsOf k ps → ps ≡ []) → (ps ≡ qs) × (vs ≡ us)
-    by (inl has) =
-        let same = points_tell ps qs (fields_text vs) (fields_text us) (has.1 ps one) (has.1 qs two) (fields_no_point k vs has.0 vs_are) (fields_no_point k us has.0 us_are) is in
+    shaped : HasPoints k → (ps ≡ qs) × (vs ≡ us)
+    shaped has =
+        let same = points_tell ps qs (fields_text vs) (fields_text us) one.0 two.0 (fields_no_point k vs has vs_are) (fields_no_point k us has us_are) is in
         (same.0, fields_tell (kind_row k) vs us vs_are us_are same.1)
-    by (inr none) =
-        let texts = ap (λ (xs : List Coordinates). points_before xs (fields_text vs)) (sym (none ps one)) ∙ is ∙ ap (λ (xs : List Coordinates). points_before xs (fields_text us)) (none qs two) in
-        (none ps one ∙ sym (none qs two), fields_tell (kind_row k) vs us vs_are us_are texts)
+
+    by : HasPoints k ⊎ (ps ≡ []) → HasPoints k ⊎ (qs ≡ []) → (ps ≡ qs) × (vs ≡ us)
+    by (inl has) other = shaped has
+    by other (inl has) = shaped has
+    by (inr none) (inr also) =
+        let texts = ap (λ (xs : List Coordinates). points_before xs (fields_text vs)) (sym none) ∙ is ∙ ap (λ (xs : List Coordinates). points_before xs (fields_text us)) also in
+        (none ∙ sym also, fields_tell (kind_row k) vs us vs_are us_are texts)
 
 alone_tells : (e g : Entry) → (e ≡ Entry.Bell) ⊎ (e ≡ Entry.DefEnd) → (g ≡ Entry.Bell) ⊎ (g ≡ Entry.DefEnd) → line e ≡ line g → e ≡ g
-alone_tells e g (inl one) (inl two) is = one ∙ sym two
-alone_tells e g (inr one) (inr two) is = one ∙ sym two
-alone_tells e g (inl one) (inr two) is = let first : 66 ≡ 69 = ap (λ (s : List ℕ). get_or s 0 0) (sym (ap line one) ∙ is ∙ ap line two) in absurd (omega (arith, first))
-alone_tells e g (inr one) (inl two) is = let first : 69 ≡ 66 = ap (λ (s : List ℕ). get_or s 0 0) (sym (ap line one) ∙ is ∙ ap line two) in absurd (omega (arith, first))
+alone_tells e g is fits h = grind arith
 
 -- entries in range with equal lines are equal
 pub line_tells : (e g : Entry) → InRange e → InRange g → line e ≡ line g → e ≡ g
@@ -174,16 +151,7 @@ points_in (p ∷ points) last fit all =
     (All-cons IsInLine 32 (points_before points last) (omega arith) (points_in points last (All-tail IsInSquare p points fit) all))
 
 word_in : (k : Kind) (rest : List ℕ) → All IsInLine rest → All IsInLine (with_word k rest)
-word_in Kind.Position rest all = All-append IsInLine (codes "APS ") rest (above 31 (codes "APS ") (omega arith)) all
-word_in Kind.Whole rest all = All-append IsInLine (codes "whole ") rest (above 31 (codes "whole ") (omega arith)) all
-word_in k rest all = all
-
-pub points_inside : (k : Kind) (points : List Coordinates) → PointsOf k points → All IsInSquare points
-points_inside k points of = by (points_or_none k)
-  where
-    by : (HasPoints k × ((ps : List Coordinates) → PointsOf k ps → All IsInSquare ps)) ⊎ ((ps : List Coordinates) → PointsOf k ps → ps ≡ []) → All IsInSquare points
-    by (inl has) = has.1 points of
-    by (inr none) = subst (λ (xs : List Coordinates). All IsInSquare xs) (sym (none points of)) (All-nil IsInSquare)
+word_in k rest is = grind (arith, All-append, above)
 
 pub line_whole : (e : Entry) → InRange e → All (λ x. x ≢ 10) (line e)
 line_whole e fits = All-weaker IsInLine (λ x. x ≢ 10) (λ x high is. omega (arith, high, is)) (line e) (by (fields_of e) (line_is e) (fields_in_range e fits))
@@ -195,7 +163,7 @@ line_whole e fits = All-weaker IsInLine (λ x. x ≢ 10) (λ x high is. omega (a
         let rest = points_before f.points (fields_text f.values) in
         subst (λ (s : List ℕ). All IsInLine s) (sym is)
         (All-append IsInLine (line_name f.kind) (32 ∷ with_word f.kind rest) (in_line (line_name f.kind) (name_visible f.kind))
-        (All-cons IsInLine 32 (with_word f.kind rest) (omega arith) (word_in f.kind rest (points_in f.points (fields_text f.values) (points_inside f.kind f.points are.1) (fields_in (kind_row f.kind) f.values are.0)))))
+        (All-cons IsInLine 32 (with_word f.kind rest) (omega arith) (word_in f.kind rest (points_in f.points (fields_text f.values) are.1.0 (fields_in (kind_row f.kind) f.values are.0)))))
 
 -- Lists with equal lines are equal.
 

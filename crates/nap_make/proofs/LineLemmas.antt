@@ -1,4 +1,4 @@
-use Rattle.nap_make.proofs.Common.{All, All-append, All-cons, All-head, All-nil, All-tail, Area, BeginsNoPoint, Coordinates, EndsPoints, Entry, Fields, FitsSort, HasFields, HasPoints, InRange, IsChosen, IsFirstWrong, IsInSquare, IsNameAlone, IsProper, IsWritten, Kind, List, None, Option, Some, Sort, SplitsAtByte, TextStep, Value, WritesNone, [], ap, append_assoc, arith, codes, false, fields_line, fields_of, fields_text, get_or, inl, inr, kind_row, least_points, length, length-append, line, line_from, line_name, point_text, points_before, points_limit, refl, subst, sym, true, with_word, ℕ, ◌++◌, ◌+◌, ◌<◌, ◌∙◌, ◌∷◌, ◌≡◌, ◌≢◌, ◌≤◌, ◌⊎◌}
+use Rattle.nap_make.proofs.Common.{All, All-append, All-cons, All-head, All-nil, All-tail, BeginsNoPoint, Coordinates, EndsPoints, Entry, Fields, FitsSort, HasFields, HasPoints, InRange, IsChosen, IsFirstWrong, IsInSquare, IsNameAlone, IsProper, IsWritten, Kind, List, None, Option, Some, SplitsAtByte, Value, WritesNone, [], ap, append_assoc, arith, fields_line, fields_of, fields_text, get_or, inl, inr, kind_row, least_points, length, length-append, line, line_from, point_text, points_before, points_limit, refl, subst, sym, ℕ, ◌++◌, ◌+◌, ◌<◌, ◌∙◌, ◌∷◌, ◌≡◌, ◌≢◌, ◌≤◌, ◌⊎◌}
 use Rattle.nap_make.proofs.AttributeLemmas.{point_spells, point_visible}
 use Rattle.nap_make.proofs.CutLemmas.{cut_text, no_cut, one_cut}
 use Rattle.nap_make.proofs.EntryLemmas.{AreFields, FieldsFit, LineIs, PointsFit, fields_fit, line_is}
@@ -22,29 +22,11 @@ FieldsChosen (Some f) = IsChosen f.kind (points_before f.points (fields_text f.v
 
 -- no word that tells kinds apart comes first in an entry's fields
 pub fields_chosen : (e : Entry) → InRange e → FieldsChosen (fields_of e)
-fields_chosen (Entry.TextMove (TextStep.Aps row column) hand) fits = tt
-fields_chosen (Entry.TextMove TextStep.Apb hand) fits = λ more is. let third : 66 ≡ 83 = ap (λ (s : List ℕ). get_or s 2 0) is in omega (arith, third)
-fields_chosen (Entry.TextMove TextStep.Apf hand) fits = λ more is. let third : 70 ≡ 83 = ap (λ (s : List ℕ). get_or s 2 0) is in omega (arith, third)
-fields_chosen (Entry.TextMove TextStep.Apd hand) fits = λ more is. let third : 68 ≡ 83 = ap (λ (s : List ℕ). get_or s 2 0) is in omega (arith, third)
-fields_chosen (Entry.TextMove TextStep.Apu hand) fits = λ more is. let third : 85 ≡ 83 = ap (λ (s : List ℕ). get_or s 2 0) is in omega (arith, third)
-fields_chosen (Entry.TextMove TextStep.Apr hand) fits = λ more is. let third : 82 ≡ 83 = ap (λ (s : List ℕ). get_or s 2 0) is in omega (arith, third)
-fields_chosen (Entry.TextMove TextStep.Aph hand) fits = λ more is. let third : 72 ≡ 83 = ap (λ (s : List ℕ). get_or s 2 0) is in omega (arith, third)
-fields_chosen (Entry.Field Area.Whole pen) fits = tt
-fields_chosen (Entry.Field (Area.Part from to) pen) fits = λ more is. other_start 119 (point_text from) _ (codes "hole " ++ more) (omega arith) (point_without 119 (omega arith) from fits.0.0) is
-fields_chosen (Entry.Arc true points ink) fits = tt
-fields_chosen (Entry.Arc false points ink) fits = tt
-fields_chosen (Entry.Rect true from to ink) fits = tt
-fields_chosen (Entry.Rect false from to ink) fits = tt
-fields_chosen (Entry.Poly true points ink) fits = tt
-fields_chosen (Entry.Poly false points ink) fits = tt
-fields_chosen (Entry.BlinkMark true colour) fits = tt
-fields_chosen (Entry.BlinkMark false colour) fits = tt
-fields_chosen e fits = tt
+fields_chosen e is = grind (arith, other_start, point_without)
 
 -- a name alone has no space
 pub alone_whole : (xs : List ℕ) → IsNameAlone xs → All (λ x. x ≢ 32) xs
-alone_whole xs (inl is) = subst (λ (s : List ℕ). All (λ x. x ≢ 32) s) (sym is) (apart_below 32 32 (codes "BELL") (omega arith) (above 32 (codes "BELL") (omega arith)))
-alone_whole xs (inr is) = subst (λ (s : List ℕ). All (λ x. x ≢ 32) s) (sym is) (apart_below 32 32 (codes "END") (omega arith) (above 32 (codes "END") (omega arith)))
+alone_whole xs is = grind (arith, apart_below, above)
 
 -- what is known of an entry with this line, if it has fields
 pub record IsReadAs (e : Entry) (f : Fields) : Type 0 where
@@ -77,25 +59,10 @@ pub record IsOfKind (k : Kind) (rest : List ℕ) : Type 0 where
   pub points_fit : PointsFit k points
 
 pub of_kind : (e : Entry) (k : Kind) (rest : List ℕ) → IsProper e → IsChosen k rest → line_from k rest ≡ line e → IsOfKind k rest
-of_kind e k rest proper chosen is =
-    let has = with_fields e (line_name k) (with_word k rest) proper (sym is) in
-    by has.0 has.1.fit (one_kind k has.0.kind rest (points_before has.0.points (fields_text has.0.values)) chosen has.1.chosen (is ∙ has.1.line_so))
-  where
-    by : (f : Fields) → AreFields f → (k ≡ f.kind) × (rest ≡ points_before f.points (fields_text f.values)) → IsOfKind k rest
-    by f fit same = record {
-      points = f.points;
-      values = f.values;
-      follows = same.1;
-      row = subst (λ (j : Kind). FitsSort (kind_row j) f.values) (sym same.0) fit.row;
-      points_fit = subst (λ (j : Kind). PointsFit j f.points) (sym same.0) fit.points;
-    }
+of_kind e k rest proper chosen is = grind (arith, with_fields, one_kind)
 
 no_points : (k : Kind) (points : List Coordinates) → (HasPoints k → ⊥) → PointsFit k points → points ≡ []
-no_points Kind.ArcOutlined points none fit = absurd (none tt)
-no_points Kind.ArcFilled points none fit = absurd (none tt)
-no_points Kind.PolyOutlined points none fit = absurd (none tt)
-no_points Kind.PolyFilled points none fit = absurd (none tt)
-no_points k points none fit = fit
+no_points k points is fits = grind arith
 
 -- no entry has a line of a kind without points with a wrong field
 pub none_plain : (k : Kind) (rest left : List ℕ) → (HasPoints k → ⊥) → IsChosen k rest → IsFirstWrong (kind_row k) rest left → WritesNone IsProper line (line_from k rest)
@@ -149,20 +116,7 @@ no_point_first bytes word more cuts none p others fits is = none p fits (cut_tex
 
 -- the fields behind the points of a shape begin no point
 pub fields_no_point : (k : Kind) (vs : List Value) → HasPoints k → AreOf (kind_row k) vs → BeginsNoPoint (fields_text vs)
-fields_no_point k vs has fits = by vs (row_is k has fits)
-  where
-    row_is : (k : Kind) → HasPoints k → AreOf (kind_row k) vs → AreOf (Sort.Pel ∷ Sort.Colour ∷ Sort.Texture ∷ []) vs
-    row_is Kind.ArcOutlined has fits = fits
-    row_is Kind.ArcFilled has fits = fits
-    row_is Kind.PolyOutlined has fits = fits
-    row_is Kind.PolyFilled has fits = fits
-    row_is _ has fits = absurd has
-
-    by : (vs : List Value) → AreOf (Sort.Pel ∷ Sort.Colour ∷ Sort.Texture ∷ []) vs → BeginsNoPoint (fields_text vs)
-    by [] fits = absurd fits
-    by (v ∷ []) fits = absurd fits.1
-    by (Value.Pel pel ∷ w ∷ vs) fits = λ p more inside is. other_start 112 (point_text p) more _ (omega arith) (point_without 112 (omega arith) p inside) (sym is)
-    by (_ ∷ w ∷ vs) fits = absurd fits.0
+fields_no_point k vs has fits = grind (arith, other_start, point_without)
 
 -- a shape with this line has the points read, and then others
 record GoesOn (points ps : List Coordinates) (rest last : List ℕ) : Type 0 where
@@ -184,23 +138,10 @@ abbrev pub IsWrongAfter : Kind → List Coordinates → List ℕ → List ℕ �
 IsWrongAfter k points rest left = ((length points < least_points k) × (left ≡ rest)) ⊎ ((least_points k ≤ length points) × IsFirstWrong (kind_row k) rest left)
 
 shape_points : (k : Kind) (points : List Coordinates) → HasPoints k → PointsFit k points → All IsInSquare points × (least_points k ≤ length points) × (length points ≤ points_limit)
-shape_points Kind.ArcOutlined points has fit = fit
-shape_points Kind.ArcFilled points has fit = fit
-shape_points Kind.PolyOutlined points has fit = fit
-shape_points Kind.PolyFilled points has fit = fit
-shape_points _ points has fit = absurd has
-
-pub shape_fit : (k : Kind) (points : List Coordinates) → HasPoints k → All IsInSquare points → least_points k ≤ length points → length points ≤ points_limit → PointsFit k points
-shape_fit Kind.ArcOutlined points has inside least few = (inside, least, few)
-shape_fit Kind.ArcFilled points has inside least few = (inside, least, few)
-shape_fit Kind.PolyOutlined points has inside least few = (inside, least, few)
-shape_fit Kind.PolyFilled points has inside least few = (inside, least, few)
-shape_fit _ points has inside least few = absurd has
+shape_points k points is fits = grind arith
 
 pub shape_chosen : (k : Kind) (rest : List ℕ) → HasPoints k → IsChosen k rest
-shape_chosen Kind.Move rest has = absurd has
-shape_chosen Kind.Field rest has = absurd has
-shape_chosen _ rest has = tt
+shape_chosen k rest is = grind arith
 
 pub none_shape : (k : Kind) (bytes : List ℕ) (points : List Coordinates) (rest left : List ℕ) → HasPoints k → EndsPoints bytes points rest → IsWrongAfter k points rest left → WritesNone IsProper line (line_from k bytes)
 none_shape k bytes points rest left has ended wrong e proper is =

@@ -1,4 +1,4 @@
-use Rattle.nap_make.proofs.Common.{All, All-append, All-nil, All-push, All-take, AllFit, Entry, Err, FaultMatchesDevice, Fits, Ghosts, HaltsAfter, IsProper, IsSome, IsWritten, LineMaker, LinesSoFar, List, MakeFault, MakerHasPut, MatchResult, None, Ok, OnOk, OpenDefinition, OpenedAt, Option, PutsEntries, Result, SinkFault, SinkTook, Some, State, StopsLines, TakesLines, TookBroke, TookMore, [], after, ap, append-nil, append_assoc, false, false_from_ne_true, false≢true, fault_of_sink, fits_join, inl, inr, is_some, length, length-append, line, lines, lines_join, refl, sink_model_of, start, subst, sym, take-append_seam, true, walk, walks_join, ℕ, ◌++◌, ◌+◌, ◌∙◌, ◌∷◌, ◌≡◌, ◌≢◌}
+use Rattle.nap_make.proofs.Common.{All, All-append, All-nil, All-push, All-take, AllFit, Entry, Err, FaultMatchesDevice, Fits, Ghosts, HaltsAfter, IsProper, IsSome, IsWritten, LineMaker, LinesSoFar, List, MakeFault, MakerHasPut, MatchResult, None, OnOk, OpenDefinition, OpenedAt, Option, PutsEntries, Result, SinkFault, SinkTook, Some, State, StopsLines, TakesLines, TookBroke, TookMore, [], after, ap, append-nil, append_assoc, arith, false, false_from_ne_true, false≢true, fault_of_sink, fits_join, is_some, length, length-append, line, lines, lines_join, refl, sink_model_of, start, subst, sym, take-append_seam, true, walk, walks_join, ℕ, ◌++◌, ◌+◌, ◌∙◌, ◌∷◌, ◌≡◌, ◌≢◌}
 
 -- One more entry, after those of earlier lines.
 
@@ -17,10 +17,7 @@ length_more es e = length-append es (e ∷ [])
 -- the lines of one more entry
 pub lines_more : (es : List Entry) (e : Entry) (rest : List ℕ) → lines (es ++ e ∷ []) ++ rest ≡ lines es ++ (line e ++ 10 ∷ rest)
 lines_more [] e rest = ap (λ (bytes : List ℕ). bytes ++ rest) (append-nil (line e ++ 10 ∷ [])) ∙ append_assoc (line e) (10 ∷ []) rest
-lines_more (x ∷ es) e rest =
-    append_assoc (line x ++ 10 ∷ []) (lines (es ++ e ∷ [])) rest
-    ∙ ap (λ (bytes : List ℕ). (line x ++ 10 ∷ []) ++ bytes) (lines_more es e rest)
-    ∙ sym (append_assoc (line x ++ 10 ∷ []) (lines es) (line e ++ 10 ∷ rest))
+lines_more (x ∷ es) e rest = grind (arith, append_assoc, lines_more es e rest)
 
 pub so_far_more : (p : List ℕ) (es : List Entry) (e : Entry) (rest : List ℕ) → LinesSoFar p es (line e ++ 10 ∷ rest) → IsProper e → Fits (walk start es) e → LinesSoFar p (es ++ e ∷ []) rest
 so_far_more p es e rest h proper fits = record {
@@ -75,14 +72,7 @@ opened_more es e before now opened same new opens = by (walk start es).definitio
 module _ {S : Type 0} (g : Ghosts S) where
   pub put_none : (s : S) (state : State) (opening : ℕ) → g.took s [] s → g.failed s ≡ false → state ≡ start → MakerHasPut g s [] (record { sink = s; state = state; lines = 0; opening = opening })
   unfolding walk AllFit
-  put_none s state opening took works is = record {
-    proper = All-nil IsProper;
-    fit = tt;
-    kept = record { took = took; works = works };
-    state = is;
-    count = refl;
-    opened = λ some. absurd (false≢true some);
-  }
+  put_none s state opening took works is = grind (arith, All-nil, false≢true)
 
   pub put_more : (s : S) (es : List Entry) (e : Entry) (old new : LineMaker S) → MakerHasPut g s es old → IsProper e → Fits old.state e →
       ((s t u : S) (d e : List Entry) → g.took s d t → g.took t e u → g.took s (d ++ e) u) → g.took old.sink (e ∷ []) new.sink → (g.failed new.sink ≡ true → ⊥) → new.state ≡ after old.state e →
@@ -102,8 +92,7 @@ module _ {S : Type 0} (g : Ghosts S) where
 -- Entries put together, after those of earlier lines.
 
 pub always_ok : {A E Q : Type 0} (r : Result A E) → Q → OnOk r Q
-always_ok (Ok x) h = h
-always_ok (Err e) h = tt
+always_ok r is = grind arith
 
 -- an open definition stays open past entries that don't end it
 opened_still : (es ds : List Entry) (number : ℕ) → OpenedAt es number → All (λ e. e ≢ Entry.DefEnd) ds → OpenedAt (es ++ ds) number
@@ -151,20 +140,7 @@ module _ {S : Type 0} (g : Ghosts S) (s : S) (es : List Entry) (old : LineMaker 
   -- some of the entries were put, and not the next one
   pub puts_some : (ds : List Entry) (new : LineMaker S) (n : ℕ) (fault : SinkFault) → TookMore (sink_model_of g) → TookBroke (sink_model_of g) → HaltsAfter (sink_model_of g) ds old.sink new.sink n fault →
       FaultMatchesDevice (sink_model_of g) old.sink new.sink n fault → PutsEntries g s es ds new (Err (fault_of_sink fault))
-  puts_some ds new n SinkFault.Memory more broke halts device = (
-    halts.prefix,
-    halts.next ∷ halts.rest,
-    halts.parts,
-    record { took = more s old.sink new.sink es halts.prefix holds.kept.took halts.taken; works = device.memory refl },
-  )
-  puts_some ds new n SinkFault.Write more broke (inl failed) device = absurd (false≢true (sym holds.kept.works ∙ failed.0))
-  puts_some ds new n SinkFault.Write more broke (inr breaks) device = (
-    breaks.prefix,
-    breaks.next,
-    breaks.rest,
-    breaks.parts,
-    record { broke = broke s old.sink new.sink es breaks.prefix breaks.next holds.kept.took breaks.broken; failed = device.write refl },
-  )
+  puts_some ds new n fault is fits h also = grind (arith, false≢true)
 
   -- lines whose entries weren't all put make no list
   pub some_stop : (ds : List Entry) (bytes rest : List ℕ) (new : LineMaker S) (f : MakeFault) → All IsProper ds → AllFit old.state ds → bytes ≡ lines ds ++ rest → PutsEntries g s es ds new (Err f) → StopsLines g s (lines es ++ bytes) new.sink f
@@ -213,14 +189,7 @@ module _ {S : Type 0} (g : Ghosts S) (s : S) (es : List Entry) (e : Entry) (byte
 
   -- a line and more lines were taken
   more_taken : (m : LineMaker S) (rest : List ℕ) → TakesLines g s (es ++ e ∷ []) more m rest → TakesLines g s es (bytes ++ 10 ∷ more) m rest
-  more_taken m rest takes = record {
-    more = e ∷ takes.more;
-    parts =
-        ap (λ (xs : List ℕ). xs ++ 10 ∷ more) written.written
-        ∙ ap (λ (xs : List ℕ). line e ++ 10 ∷ xs) takes.parts
-        ∙ sym (append_assoc (line e ++ 10 ∷ []) (lines takes.more) rest ∙ append_assoc (line e) (10 ∷ []) (lines takes.more ++ rest));
-    holds = subst (λ (xs : List Entry). MakerHasPut g s xs m) (append_assoc es (e ∷ []) takes.more) takes.holds;
-  }
+  more_taken m rest takes = grind (arith, append_assoc)
 
   -- a line was taken, and no more
   pub one_taken : (m : LineMaker S) → MakerHasPut g s (es ++ e ∷ []) m → TakesLines g s es (bytes ++ 10 ∷ more) m more
@@ -228,5 +197,4 @@ module _ {S : Type 0} (g : Ghosts S) (s : S) (es : List Entry) (e : Entry) (byte
 
   pub more_result : {A : Type 0} (rest_of : A → List ℕ) (m : LineMaker S) (r : Result A MakeFault) → MatchResult r (λ rest. TakesLines g s (es ++ e ∷ []) more m (rest_of rest)) (StopsLines g s (lines (es ++ e ∷ []) ++ more) m.sink) →
       MatchResult r (λ rest. TakesLines g s es (bytes ++ 10 ∷ more) m (rest_of rest)) (StopsLines g s (lines es ++ (bytes ++ 10 ∷ more)) m.sink)
-  more_result rest_of m (Ok rest) takes = more_taken m (rest_of rest) takes
-  more_result rest_of m (Err f) stops = subst (λ (xs : List ℕ). StopsLines g s xs m.sink f) line_first stops
+  more_result rest_of m r is = grind (arith, more_taken, line_first)

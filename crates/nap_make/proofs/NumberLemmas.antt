@@ -1,4 +1,4 @@
-use Rattle.nap_make.proofs.Common.{All, All-append, All-cons, All-nil, All-weaker, AllDigits, BothFit, IsByte, IsCode, IsNibble, IsNumeralOf, IsParsed, IsShort, IsSigned, IsWritten, List, MatchOption, None, Option, Some, WritesNone, [], ap, ap₂, arith, code_text, decimal, decimal-digits_value, decimal_digit, decimal_injective, decimal_is_IsNumeral, decimal_nonempty, digit_char, digit_from_value, digit_value, digit_value-digit_char, digits_value, digits_value-lt, drop, first_decimal, get_or, ints, length, length-decimal-le, length-take-le, mag, nat_tests, negsuc, numerals_by_value, pair_text, pos, pow-le-pow_right, refl, rules, signed_decimal, signed_decimal_injective, subst, suc, sym, take, take_all, tells_digits, w32, zero, ℕ, ℤ, ◌%◌, ◌*◌, ◌++◌, ◌+◌, ◌-◌, ◌/◌, ◌<◌, ◌^◌, ◌∙◌, ◌∷◌, ◌≡◌, ◌≢◌, ◌≤◌}
+use Rattle.nap_make.proofs.Common.{All, All-append, All-cons, All-nil, All-weaker, AllDigits, BothFit, IsByte, IsCode, IsNibble, IsNumeralOf, IsParsed, IsShort, IsSigned, IsWritten, List, MatchOption, Option, WritesNone, [], ap, arith, code_text, decimal, decimal-digits_value, decimal_digit, decimal_injective, decimal_is_IsNumeral, decimal_nonempty, digit_char, digit_from_value, digit_value, digit_value-digit_char, digits_value, digits_value-lt, drop, first_decimal, get_or, ints, length, length-decimal-le, length-take-le, mag, nat_tests, negsuc, numerals_by_value, pair_text, pos, pow-le-pow_right, refl, rules, signed_decimal, signed_decimal_injective, subst, suc, sym, take, take_all, tells_digits, w32, zero, ℕ, ℤ, ◌%◌, ◌*◌, ◌++◌, ◌+◌, ◌-◌, ◌/◌, ◌<◌, ◌^◌, ◌∙◌, ◌∷◌, ◌≡◌, ◌≢◌, ◌≤◌}
 use mir.Val.{SFits}
 
 pub fits64 : (n : ℕ) → IsShort n → n < 2 ^ 64
@@ -22,18 +22,10 @@ digit_at (d ∷ ds) (suc i) all within = digit_at ds i all.1 (omega (arith, with
 
 -- the value of fewer than eight digits is below 10^7, so one more digit fits
 pub small : (ds : List ℕ) (i : ℕ) → AllDigits 10 (take i ds) → i < length ds → length ds ≤ 8 → digits_value 10 (take i ds) < 10 ^ 7
-small ds i all within few =
-    let low = digits_value-lt 10 (take i ds) all in
-    let size = length-take-le i ds (omega (arith, within)) in
-    let short : length (take i ds) ≤ 7 = omega (arith, size, within, few) in
-    let most : 10 ^ length (take i ds) ≤ 10 ^ 7 = pow-le-pow_right {n = 10} (omega arith) short in
-    omega (arith, low, most)
+small ds i all within few = grind (arith, digits_value-lt, length-take-le, pow-le-pow_right)
 
 pub short_value : (ds : List ℕ) → AllDigits 10 ds → length ds ≤ 8 → IsShort (digits_value 10 ds)
-short_value ds all few =
-    let low = digits_value-lt 10 ds all in
-    let most : 10 ^ length ds ≤ 10 ^ 8 = pow-le-pow_right {n = 10} (omega arith) few in
-    omega (arith, low, most)
+short_value ds all few = grind (arith, digits_value-lt, pow-le-pow_right)
 
 -- Numbers by their digits.
 
@@ -48,11 +40,7 @@ no_zero ds n ensured lone =
 
 -- digits with a leading zero are the decimal digits of no number
 pub zero_first : (ds : List ℕ) (n : ℕ) → IsShort n → ds ≡ decimal n → get_or ds 0 0 ≡ 48 → length ds ≢ 1 → ⊥
-zero_first ds zero short is first more = more (ap (λ (xs : List ℕ). length xs) (is ∙ decimal_digit 0 (omega arith)))
-zero_first ds (suc n) short is first more =
-    let high = first_decimal (suc n) (omega arith) (fits64 (suc n) short) in
-    let same : get_or ds 0 0 ≡ get_or (decimal (suc n)) 0 0 = ap (λ (xs : List ℕ). get_or xs 0 0) is in
-    omega (arith, high, same, first)
+zero_first ds n is fits h also = grind (arith, decimal_digit, first_decimal, fits64)
 
 -- a text is the decimal digits of one number
 pub same_number : (ds : List ℕ) (m n : ℕ) → ds ≡ decimal m → ds ≡ decimal n → m < 2 ^ 64 → n < 2 ^ 64 → m ≡ n
@@ -134,15 +122,7 @@ high_digit xs high n fits first made is = digit_tells high (n / 16) fits (omega 
 
 pub code_written : (xs : List ℕ) (high low : ℕ) → length xs ≡ 2 → get_or xs 0 0 ≡ digit_char high → get_or xs 1 0 ≡ digit_char low → 2 ≤ high → high ≤ 7 → IsNibble low →
     IsWritten IsCode code_text xs (high * 16 + low)
-code_written xs high low two first second least most nibble =
-    let prefix : (high * 16 + low) / 16 ≡ high = omega (arith, nibble) in
-    let back : (high * 16 + low) % 16 ≡ low = omega (arith, nibble) in
-    record {
-      fitting = (omega (arith, least), omega (arith, most, nibble));
-      written =
-          two_bytes xs two
-          ∙ ap₂ (λ (a b : ℕ). a ∷ b ∷ []) (first ∙ ap digit_char (sym prefix)) (second ∙ ap digit_char (sym back));
-    }
+code_written xs high low two first second least most nibble = grind (arith, two_bytes)
 
 digit_visible : (d : ℕ) → IsNibble d → 32 < digit_char d
 digit_visible d fits = grind (arith, nat_tests)
@@ -160,44 +140,25 @@ no_minus n ds fits is =
 pub with_minus : (bytes digits : List ℕ) (r : Option ℤ) → bytes ≡ 45 ∷ digits →
     MatchOption r ((n : ℕ) → IsSigned (negsuc n) → digits ≢ decimal (suc n)) (λ z. IsSigned z × (45 ∷ digits ≡ signed_decimal z)) →
     IsParsed IsSigned signed_decimal bytes r
-with_minus bytes digits None joins ensured = none
-  where
-    none : WritesNone IsSigned signed_decimal bytes
-    none (pos n) fits is = no_minus n digits (omega (arith, low_pos n fits)) (sym joins ∙ is)
-    none (negsuc n) fits is = let whole : 45 ∷ digits ≡ 45 ∷ decimal (suc n) = sym joins ∙ is in ensured n fits (cc)
-with_minus bytes digits (Some z) joins ensured = record { fitting = ensured.0; written = joins ∙ ensured.1 }
+with_minus bytes digits r is fits = grind (arith, no_minus, low_pos)
 
 pub without_minus : (bytes : List ℕ) (r : Option ℤ) → get_or bytes 0 0 ≢ 45 →
     MatchOption r ((n : ℕ) → IsSigned (pos n) → bytes ≢ decimal n) (λ z. IsSigned z × (bytes ≡ signed_decimal z)) →
     IsParsed IsSigned signed_decimal bytes r
-without_minus bytes None other ensured = none
-  where
-    none : WritesNone IsSigned signed_decimal bytes
-    none (pos n) fits is = ensured n fits is
-    none (negsuc n) fits is = other (ap (λ (xs : List ℕ). get_or xs 0 0) is)
-without_minus bytes (Some z) other ensured = record { fitting = ensured.0; written = ensured.1 }
+without_minus bytes r is fits = grind arith
 
 -- what follows a minus
 pub after_minus : (bytes : List ℕ) → 0 < length bytes → get_or bytes 0 0 ≡ 45 → bytes ≡ 45 ∷ take (length bytes - 1) (drop 1 bytes)
-after_minus [] some first = absurd (omega (arith, some))
-after_minus (x ∷ xs) some first = let all : take (length (x ∷ xs) - 1) xs ≡ xs = take_all (length (x ∷ xs) - 1) xs (omega arith) in rw (first, all) refl
+after_minus bytes is fits = grind (arith, take_all)
 
 pub no_sign : (bytes : List ℕ) → length bytes ≡ 0 → WritesNone IsSigned signed_decimal bytes
-no_sign bytes empty (pos n) fits is =
-    let low = low_pos n fits in
-    let some = decimal_nonempty n (omega (arith, low)) in
-    let same : length bytes ≡ length (decimal n) = ap (λ (xs : List ℕ). length xs) is in
-    omega (arith, some, same, empty)
-no_sign bytes empty (negsuc n) fits is =
-    let same : length bytes ≡ length (45 ∷ decimal (suc n)) = ap (λ (xs : List ℕ). length xs) is in
-    omega (arith, same, empty)
+no_sign bytes is fits h also = grind (arith, low_pos, decimal_nonempty)
 
 pub signed_fits : (z : ℤ) → IsSigned z → SFits w32 z
 signed_fits z fits = search rules
 
 mag_below : (z : ℤ) → IsSigned z → mag z < 2 ^ 63
-mag_below (pos n) fits = omega (arith, low_pos n fits)
-mag_below (negsuc n) fits = omega (arith, low_neg n fits)
+mag_below z is = grind (arith, low_pos, low_neg)
 
 pub signed_tells : (y z : ℤ) → IsSigned y → IsSigned z → signed_decimal y ≡ signed_decimal z → y ≡ z
 signed_tells y z y_fits z_fits is = signed_decimal_injective y z (mag_below y y_fits) (mag_below z z_fits) is

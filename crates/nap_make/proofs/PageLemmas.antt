@@ -1,4 +1,4 @@
-use Rattle.nap_make.proofs.Common.{All-nil, AllFit, Appends, Appends-kept, Bool, Broke, Canonical, ComeFirst, ConcludesPage, DeniesInput, DeniesLines, EachGave, Entry, Err, FeedsFrom, Finishes, Form, Ghosts, Grows, IsCutOff, IsPrefixOf, IsProper, IsReadWhole, Keeps, LineReader, LinesSoFar, List, ListFault, MakeFault, Makes, MakesList, MakesNoList, MakesNone, MakesPage, MakesPart, NoneFailed, Ok, Option, PageFault, Piece, PutsLines, Reading, ReadsNoMore, RefusesLines, RefusesLinesBy, Result, Sends, ShowsNone, SinkTook, Some, StartsText, State, StopsLines, StopsLinesBy, TextEnd, Took, Two, Writes, [], ap, append-nil, append_assoc, arith, count_of, drop, entry_bytes, entry_bytes_after, entry_pieces, false, fault_of_input, fault_of_text, grows_more, header, inl, inr, page_answer, pieces, pieces-append, pieces_bytes, pieces_bytes-append, refl, sending, sending_of, sink_writes_text, start, subst, sym, take, take-append-drop, text, text_end_after, text_end_after_header, took_none, true, walk, ℕ, ◌++◌, ◌∙◌, ◌∷◌, ◌≡◌, ◌≢◌, ◌⊎◌}
+use Rattle.nap_make.proofs.Common.{All-nil, AllFit, Appends, Appends-kept, Bool, Broke, Canonical, ComeFirst, ConcludesPage, DeniesInput, DeniesLines, EachGave, Entry, Err, FeedsFrom, Finishes, Ghosts, Grows, IsCutOff, IsPrefixOf, IsProper, IsReadWhole, Keeps, LineReader, LinesSoFar, List, ListFault, MakeFault, Makes, MakesList, MakesNoList, MakesNone, MakesPage, MakesPart, NoneFailed, Ok, PageFault, Piece, PutsLines, Reading, ReadsNoMore, RefusesLines, RefusesLinesBy, Result, Sends, ShowsNone, SinkTook, Some, StartsText, State, StopsLines, StopsLinesBy, Took, Two, Writes, [], ap, append-nil, append_assoc, arith, count_of, drop, entry_bytes, entry_bytes_after, entry_pieces, false, fault_of_input, fault_of_text, grows_more, header, inl, inr, page_answer, pieces, pieces-append, pieces_bytes, pieces_bytes-append, refl, sending, sending_of, sink_writes_text, start, subst, sym, take, take-append-drop, text, text_end_after, text_end_after_header, took_none, true, walk, ℕ, ◌++◌, ◌∙◌, ◌∷◌, ◌≡◌, ◌≢◌, ◌⊎◌}
 use Rattle.nap_list.specs.declared.device.Outlet as outlet
 
 -- The bytes of a canonical sink that failed during an entry, and how often its output was flushed.
@@ -11,17 +11,11 @@ module _ {O : Type 0} (o : outlet.Ghosts O) (w : O) (s : Canonical O) (begins : 
 
   -- the bytes of entries are those of a text after its header
   bytes_with_header : (d : List Entry) → entry_bytes s d ≡ pieces_bytes text_end_after_header (pieces Two start d)
-  bytes_with_header d =
-      ap (λ (f : Form). pieces_bytes s.text_end (pieces f s.state d)) begins.form_is
-      ∙ ap (λ (t : TextEnd). pieces_bytes t (pieces Two s.state d)) begins.text_end
-      ∙ ap (λ (u : State). pieces_bytes text_end_after_header (pieces Two u d)) begins.state
+  bytes_with_header d = grind arith
 
   -- the bytes of one more entry
   next_entry_bytes : (d : List Entry) (e : Entry) → entry_bytes_after s d e ≡ pieces_bytes (text_end_after text_end_after_header (pieces Two start d)) (entry_pieces Two (walk start d) e)
-  next_entry_bytes d e =
-      ap (λ (f : Form). pieces_bytes (text_end_after s.text_end (pieces f s.state d)) (entry_pieces f (walk s.state d) e)) begins.form_is
-      ∙ ap (λ (t : TextEnd). pieces_bytes (text_end_after t (pieces Two s.state d)) (entry_pieces Two (walk s.state d) e)) begins.text_end
-      ∙ ap (λ (u : State). pieces_bytes (text_end_after text_end_after_header (pieces Two u d)) (entry_pieces Two (walk u d) e)) begins.state
+  next_entry_bytes d e = grind arith
 
   one_piece : (u : State) (e : Entry) → pieces Two u (e ∷ []) ≡ entry_pieces Two u e
   unfolding pieces
@@ -57,11 +51,7 @@ module _ {O : Type 0} (o : outlet.Ghosts O) (w : O) (s : Canonical O) (begins : 
 -- the text that a sink wrote to an output that tells its bytes and had none
 pub text_written : {O : Type 0} (o : outlet.Ghosts O) (w : O) (s t : Canonical O) → StartsText o w s → o.failed s.outlet ≡ false → (items : O → List ℕ) →
     ((u : O) → o.taken u ≡ Some (items u)) → items w ≡ [] → (d : List Entry) → Took o s d t → items t.outlet ≡ text d
-text_written o w s t begins works items tells empty d took =
-    let taken : Appends (o.taken w) (o.taken t.outlet) (text d) = (sink_writes_text o w s t d begins works took).grows.taken in
-    let text_is : Appends (Some (items w)) (Some (items t.outlet)) (text d) =
-    subst (λ (a : Option (List ℕ)). Appends a (Some (items t.outlet)) (text d)) (tells w) (subst (λ (b : Option (List ℕ)). Appends (o.taken w) b (text d)) (tells t.outlet) taken) in
-    text_is ∙ ap (λ (bytes : List ℕ). bytes ++ text d) empty
+text_written o w s t begins works items tells empty d took = grind (arith, sink_writes_text)
 
 -- The bytes that an output took of the page which lines make.
 
@@ -97,8 +87,7 @@ module _ {O : Type 0} (o : outlet.Ghosts O) (w : O) (s : Canonical O) (begins : 
   unbroken t es kept broke = let bad : true ≡ false = sym broke ∙ sym (failed_is t) ∙ kept.works in cc
 
   refused : (t : Canonical O) (f : MakeFault) (es : List Entry) → f ≢ MakeFault.Write → RefusesLines p seen (text es) f → RefusesLinesBy p seen (text es) f
-  refused t MakeFault.Write es own h = absurd (own refl)
-  refused t _ es own h = h
+  refused t f es is fits = grind arith
 
   -- the list was made
   whole : (t : Canonical O) → IsReadWhole seen p → MakesList g s p t → (q : List ℕ) × WentOut t (Ok tt) q
@@ -144,10 +133,6 @@ module _ {O : Type 0} (o : outlet.Ghosts O) (w : O) (s : Canonical O) (begins : 
   )
 
   stopped : (t : Canonical O) (f : MakeFault) (es : List Entry) → EachGave p seen → ComeFirst p es → StopsLinesBy g s p es t f → (q : List ℕ) × WentOut t (Err (ListFault.Lines f)) q
-  stopped t (MakeFault.Line number column) es gave first h = shows_wrong t (MakeFault.Line number column) es (λ is. let bad : ⊥ = cc in bad) gave first h.0 h.1
-  stopped t (MakeFault.Misfit number) es gave first h = shows_wrong t (MakeFault.Misfit number) es (λ is. let bad : ⊥ = cc in bad) gave first h.0 h.1
-  stopped t (MakeFault.Open number opening) es gave first h = shows_wrong t (MakeFault.Open number opening) es (λ is. let bad : ⊥ = cc in bad) gave first h.0 h.1
-  stopped t MakeFault.Memory es gave first h = shows_wrong t MakeFault.Memory es (λ is. let bad : ⊥ = cc in bad) gave first h.0 h.1
   stopped t MakeFault.Write es gave first h =
       let wrote = broken_sink_writes_prefix o w s begins works t es h.0 (broke_is t es h.0 h.2.broke) in
       let here = subst (λ (q : List ℕ). ComeFirst q (es ++ h.0 ∷ [])) (append-nil p) (h.1 []) in (
@@ -159,6 +144,7 @@ module _ {O : Type 0} (o : outlet.Ghosts O) (w : O) (s : Canonical O) (begins : 
           right = λ count still. let bad = sym still ∙ sym (failed_is t) ∙ h.2.failed in cc;
         },
       )
+  stopped t f es gave first h = shows_wrong t f es (λ is. let bad : ⊥ = cc in bad) gave first h.0 h.1
 
   went_out : (t : Canonical O) (made : Result (Unit {0}) ListFault) → Makes g s p seen t made → (q : List ℕ) × WentOut t made q
   went_out t (Ok done) h = whole t h.0 h.1
@@ -223,9 +209,7 @@ header_fails o w s begins fails seen gave u answer keeps failed ends =
 -- Lines in memory, or of an input, make a page in memory, or none.
 
 denies_lines : {S : Type 0} (g : Ghosts S) (s : S) (p : List ℕ) (t : S) (f : MakeFault) → PutsLines g s p t (Err f) → DeniesLines p (fault_of_text f)
-denies_lines g s p t MakeFault.Memory h = tt
-denies_lines g s p t MakeFault.Write h = tt
-denies_lines g s p t _ h = (h.entries, h.why)
+denies_lines g s p t f is = grind arith
 
 module _ {S : Type 0} (g : Ghosts S) (s : S) (p : List ℕ) (t : S) (r : Result ℕ MakeFault) where
   pub puts_page : (n : ℕ) → PutsLines g s p t r → r ≡ Ok n → Finishes g s p t (Ok n)
@@ -255,8 +239,7 @@ module _ {S : Type 0} (g : Ghosts S) (s : S) (p : List ℕ) (seen : Reading) (t 
   makes_page r h is = subst (λ (made : Result (Unit {0}) ListFault). Makes g s p seen t made) is h
 
   denied : (f : ListFault) → Makes g s p seen t (Err f) → DeniesInput p seen (fault_of_input f)
-  denied (ListFault.Lines f) h = denies_input f h
-  denied ListFault.Read h = h.cut_off
+  denied f is = grind (arith, denies_input)
 
   pub made_none : (r : Result (Unit {0}) ListFault) (f : ListFault) → Makes g s p seen t r → r ≡ Err f → DeniesInput p seen (fault_of_input f)
   made_none r f h is = denied f (subst (λ (made : Result (Unit {0}) ListFault). Makes g s p seen t made) is h)
@@ -264,15 +247,7 @@ module _ {S : Type 0} (g : Ghosts S) (s : S) (p : List ℕ) (seen : Reading) (t 
 -- What was read of an input or of memory makes a list, or none.
 
 pub makes_none : {S : Type 0} (g : Ghosts S) (s : S) (p : List ℕ) (seen : Reading) (r : LineReader S) (f : ListFault) → FeedsFrom g s p seen r (Err f) → Makes g s p seen r.maker.sink (Err f)
-makes_none g s p seen r (ListFault.Lines fault) h = inr h
-makes_none g s p seen r ListFault.Read h = record {
-  cut_off = h.0;
-  entries = h.2.entries;
-  rest = r.part.items;
-  so_far = record { proper = h.2.holds.proper; fit = h.2.holds.fit; parts = h.2.parts };
-  none = h.1.whole;
-  kept = h.2.holds.kept;
-}
+makes_none g s p seen r f is = grind (arith, whole)
 
 module _ {S : Type 0} (g : Ghosts S) (s : S) (p : List ℕ) (t : S) where
   -- lines that show that no list has them are no list's
@@ -287,17 +262,8 @@ module _ {S : Type 0} (g : Ghosts S) (s : S) (p : List ℕ) (t : S) where
 
   -- the lines are no list's, or the sink failed
   pub puts_none : (f : MakeFault) → StopsLines g s p t f → PutsLines g s p t (Err f)
-  puts_none (MakeFault.Line number column) h = shown_none (MakeFault.Line number column) h.entries (λ is. let bad : ⊥ = cc in bad) h.first h.why.0 h.why.1
-  puts_none (MakeFault.Misfit number) h = shown_none (MakeFault.Misfit number) h.entries (λ is. let bad : ⊥ = cc in bad) h.first h.why.0 h.why.1
-  puts_none (MakeFault.Open number opening) h = shown_none (MakeFault.Open number opening) h.entries (λ is. let bad : ⊥ = cc in bad) h.first h.why.0 h.why.1
-  puts_none MakeFault.Memory h = shown_none MakeFault.Memory h.entries (λ is. let bad : ⊥ = cc in bad) h.first h.why.0 h.why.1
-  puts_none MakeFault.Write h = h
+  puts_none f is = grind (arith, shown_none)
 
   -- the lines ended
   pub puts_all : (r : Result ℕ MakeFault) → Finishes g s p t r → PutsLines g s p t r
-  puts_all (Ok n) h = h
-  puts_all (Err (MakeFault.Line number column)) h = h
-  puts_all (Err (MakeFault.Misfit number)) h = h
-  puts_all (Err (MakeFault.Open number opening)) h = h
-  puts_all (Err MakeFault.Memory) h = h
-  puts_all (Err MakeFault.Write) h = absurd (h.own refl)
+  puts_all r is = grind arith

@@ -60,3 +60,6 @@ made_pages_agree budget = record {
     λ made. record { accepted = accepted; text_is = made.text_is ∙ ap text (one_list (lines (list_of budget p)) made.entries (list_of budget p) made.are (own_lines budget p accepted)) },
   );
 }
+
+-- What laws without answers cite.
+pub ruleset laws = (lines_tell_lists, lines_are_bounded, lines_have_no_ends, made_pages_agree)

@@ -1,4 +1,4 @@
-use Rattle.nap_make.proofs.Common.{All, All-head, All-tail, BothFit, CharSet, ColourInRange, CursorKind, FitsSort, InSort, IsByte, IsChosen, IsFirstWrong, IsInRange, IsPlainStep, IsWord, IsWrong, Kind, List, Mask, PenInRange, Sort, SplitsAtByte, TextInRange, TextStep, TextureInRange, Value, WritesNone, [], ap, append_assoc, append_cancel_left, arith, bytes_eq, codes, colour_text, cond, cursor_text, decimal, drop, drop-cons, field_text, fields_before, fields_text, get_or, length, length-append, line_from, line_name, look_text, mask_text, move_text, pair_text, pen_text, refl, set_text, step_text, subst, suc, sym, take, take-append-drop, take_more, texture_text, with_word, ℕ, ◌++◌, ◌+◌, ◌<◌, ◌∙◌, ◌∷◌, ◌≡◌, ◌≢◌}
+use Rattle.nap_make.proofs.Common.{All, All-head, All-tail, BothFit, CharSet, ColourInRange, CursorKind, FitsSort, InSort, IsByte, IsChosen, IsFirstWrong, IsInRange, IsPlainStep, IsWord, IsWrong, Kind, List, Mask, PenInRange, Sort, SplitsAtByte, TextInRange, TextureInRange, Value, WritesNone, [], ap, append_assoc, append_cancel_left, arith, bytes_eq, codes, colour_text, cond, cursor_text, decimal, drop, drop-cons, field_text, fields_before, fields_text, get_or, length, length-append, line_from, line_name, look_text, mask_text, move_text, pair_text, pen_text, refl, set_text, step_text, subst, suc, sym, take, take-append-drop, take_more, texture_text, with_word, ℕ, ◌++◌, ◌+◌, ◌<◌, ◌∙◌, ◌∷◌, ◌≡◌, ◌≢◌}
 use Rattle.nap_make.proofs.AttributeLemmas.{colour_visible, grb_visible, look_visible, move_visible, number_visible, pen_visible, point_visible, texture_visible}
 use Rattle.nap_make.proofs.CutLemmas.{cut_text, no_cut, one_cut}
 use Rattle.nap_make.proofs.NumberLemmas.{EachAbove, IsVisible, Spells, above, apart_below, both_spell, code_visible, key_spells}
@@ -11,27 +11,21 @@ InType Sort.Code (Value.Code code) = IsByte code
 InType s v = InSort s v
 
 pub in_type : (s : Sort) (v : Value) → InSort s v → InType s v
-in_type Sort.Code (Value.Code code) fits = omega (arith, fits)
-in_type _ _ fits = fits
+in_type s v is = grind arith
 
 -- No text has a space.
 
 pub set_visible : (set : CharSet) → All IsVisible (set_text set)
-set_visible CharSet.Primary = above 32 (codes "primary") (omega arith)
-set_visible set = above 32 (set_text set) (omega arith)
+set_visible set = grind (arith, above)
 
 pub plain_visible : Spells IsVisible IsPlainStep step_text
-plain_visible TextStep.Apb fits = above 32 (codes "APB") (omega arith)
-plain_visible (TextStep.Aps row column) fits = absurd fits
-plain_visible step fits = above 32 (step_text step) (omega arith)
+plain_visible is fits = grind (arith, above)
 
 cursor_visible : (state : CursorKind) → All IsVisible (cursor_text state)
-cursor_visible CursorKind.Flash = above 32 (codes "flash") (omega arith)
-cursor_visible state = above 32 (cursor_text state) (omega arith)
+cursor_visible state = grind (arith, above)
 
 mask_visible : (mask : Mask) → All IsVisible (mask_text mask)
-mask_visible Mask.A = above 32 (codes "A") (omega arith)
-mask_visible mask = above 32 (mask_text mask) (omega arith)
+mask_visible mask = grind (arith, above)
 
 word_visible : Spells IsVisible IsWord decimal
 word_visible n fits = number_visible n (omega (arith, fits))
@@ -139,8 +133,7 @@ front_wrong front i d last bytes vs rest within has none = record {
 
 pub no_space : (front : List Sort) (i : ℕ) (d last : Sort) (bytes : List ℕ) (vs : List Value) (rest : List ℕ) → i < length front → HasRead front i bytes vs rest →
     ((x y : List ℕ) → SplitsAtByte 32 rest x y → ⊥) → IsFirstWrong (front ++ last ∷ []) bytes rest
-no_space front i d last bytes vs rest within has none =
-    front_wrong front i d last bytes vs rest within has (λ v more fits is. none (field_text v) more (record { joins = is; first = field_apart (get_or front i d) v fits }))
+no_space front i d last bytes vs rest within has none = grind (arith, front_wrong, field_apart)
 
 pub no_word : (front : List Sort) (i : ℕ) (d last : Sort) (bytes : List ℕ) (vs : List Value) (rest word more : List ℕ) → i < length front → HasRead front i bytes vs rest →
     SplitsAtByte 32 rest word more → WritesNone (InSort (get_or front i d)) field_text word → IsFirstWrong (front ++ last ∷ []) bytes rest
@@ -153,10 +146,7 @@ all_read front i bytes vs rest has whole = (subst (λ (row : List Sort). FitsSor
 
 pub last_read : (front : List Sort) (last : Sort) (bytes : List ℕ) (vs us : List Value) (v : Value) (rest : List ℕ) → FitsSort front vs × (bytes ≡ fields_before vs rest) → InSort last v → rest ≡ field_text v → us ≡ vs ++ v ∷ [] →
     FitsSort (front ++ last ∷ []) us × (bytes ≡ fields_text us)
-last_read front last bytes vs us v rest read fits is grown = (
-  subst (λ (ws : List Value). FitsSort (front ++ last ∷ []) ws) (sym grown) (fits_append front (last ∷ []) vs (v ∷ []) read.0 (fits, tt)),
-  read.1 ∙ ap (fields_before vs) is ∙ sym (fields_join vs v) ∙ ap fields_text (sym grown),
-)
+last_read front last bytes vs us v rest read fits is grown = grind (arith, fits_append, fields_join)
 
 -- No values of the row have the text of right fields before a wrong one.
 pub no_values : (before : List Sort) (sort : Sort) (others : List Sort) (us vs : List Value) (left : List ℕ) → FitsSort (before ++ sort ∷ others) us → FitsSort before vs → IsWrong sort others left → fields_text us ≡ fields_before vs left → ⊥
@@ -169,11 +159,7 @@ no_values [] sort [] (u ∷ w ∷ us) [] left fits right wrong is = absurd fits.
 no_values [] sort (t ∷ others) (u ∷ []) [] left fits right wrong is = absurd fits.1
 no_values [] sort others us (v ∷ vs) left fits right wrong is = absurd right
 no_values (b ∷ before) sort others us [] left fits right wrong is = absurd right
-no_values before sort others [] vs left fits right wrong is = none before fits
-  where
-    none : (before : List Sort) → FitsSort (before ++ sort ∷ others) [] → ⊥
-    none [] fits = fits
-    none (b ∷ before) fits = fits
+no_values before sort others [] vs left fits right wrong is = grind arith
 no_values (b ∷ before) sort others (u ∷ []) (v ∷ vs) left fits right wrong is = none before fits.1
   where
     none : (before : List Sort) → FitsSort (before ++ sort ∷ others) [] → ⊥
@@ -187,10 +173,7 @@ pub stays : (w q r tail x : List ℕ) → All (λ b. b ≢ 32) w → q ++ 32 ∷
 stays [] [] r tail x none is = (tail, refl)
 stays [] (c ∷ q) r tail x none is = let first : c ≡ 32 = ap (λ (s : List ℕ). get_or s 0 0) is in (q ++ 32 ∷ tail, ap (λ (b : ℕ). b ∷ (q ++ 32 ∷ tail)) first)
 stays (b ∷ w) [] r tail x none is = absurd (All-head (λ z. z ≢ 32) b w none (sym (ap (λ (s : List ℕ). get_or s 0 0) is)))
-stays (b ∷ w) (c ∷ q) r tail x none is =
-    let first : c ≡ b = ap (λ (s : List ℕ). get_or s 0 0) is in
-    let others = stays w q r tail x (All-tail (λ z. z ≢ 32) b w none) (ap (λ (s : List ℕ). drop 1 s) is) in
-    (others.0, ap (λ (n : ℕ). n ∷ (q ++ 32 ∷ tail)) first ∙ ap (λ (s : List ℕ). b ∷ s) others.1)
+stays (b ∷ w) (c ∷ q) r tail x none is = grind (arith, All-tail, stays w q r tail x (All-tail (λ z. z ≢ 32) b w none) (ap (λ (s : List ℕ). drop 1 s) is))
 
 wrong_stays : (s : Sort) (others : List Sort) (q r tail : List ℕ) → IsWrong s others (q ++ 32 ∷ r) → IsWrong s others (q ++ 32 ∷ tail)
 wrong_stays s [] q r tail wrong = λ v fits is. no_cut 32 (field_text v) q tail (field_apart s v fits) (sym is)
@@ -198,21 +181,11 @@ wrong_stays s (t ∷ others) q r tail wrong = λ v more fits is. let found = sta
 
 -- a field is wrong whatever follows the next space
 pub first_stays : (row : List Sort) (bytes left q r tail : List ℕ) → left ≡ q ++ 32 ∷ r → (first : IsFirstWrong row bytes left) → IsFirstWrong row (fields_before first.values (q ++ 32 ∷ tail)) (q ++ 32 ∷ tail)
-first_stays row bytes left q r tail is first = record {
-  before = first.before;
-  sort = first.sort;
-  others = first.others;
-  row_is = first.row_is;
-  values = first.values;
-  right = first.right;
-  parts = refl;
-  wrong = wrong_stays first.sort first.others q r tail (subst (IsWrong first.sort first.others) is first.wrong);
-}
+first_stays row bytes left q r tail is first = grind (arith, wrong_stays)
 
 -- no values of a row have a text with a wrong field
 pub none_in_row : (row : List Sort) (bytes left : List ℕ) (us : List Value) → IsFirstWrong row bytes left → FitsSort row us → bytes ≡ fields_text us → ⊥
-none_in_row row bytes left us first fits is =
-    no_values first.before first.sort first.others us first.values left (subst (λ (r : List Sort). FitsSort r us) first.row_is fits) first.right first.wrong (sym is ∙ first.parts)
+none_in_row row bytes left us first fits is = grind (arith, no_values)
 
 -- Kinds by their names.
 
@@ -244,12 +217,10 @@ plain Kind.Whole = Kind.Field
 plain k = k
 
 again : (k : Kind) → kind_at (line_name k) ≡ plain k
-again Kind.Point = refl
-again _ = refl
+again k = grind arith
 
 visible : (k : Kind) → EachAbove 32 (line_name k)
-visible Kind.Point = omega arith
-visible _ = omega arith
+visible k = grind arith
 
 pub name_visible : (k : Kind) → All (λ x. 32 < x) (line_name k)
 name_visible k = above 32 (line_name k) (visible k)
@@ -260,29 +231,14 @@ name_apart k = apart_below 32 32 (line_name k) (omega arith) (name_visible k)
 
 -- kinds with one name, of which no word tells another, are equal
 kinds_tell : (j k : Kind) (q r : List ℕ) → plain j ≡ plain k → IsChosen j q → IsChosen k r → with_word j q ≡ with_word k r → j ≡ k
-kinds_tell Kind.Position Kind.Position q r same one two words = refl
-kinds_tell Kind.Whole Kind.Whole q r same one two words = refl
-kinds_tell Kind.Position Kind.Move q r same one two words = absurd (two q (sym words))
-kinds_tell Kind.Move Kind.Position q r same one two words = absurd (one r words)
-kinds_tell Kind.Whole Kind.Field q r same one two words = absurd (two q (sym words))
-kinds_tell Kind.Field Kind.Whole q r same one two words = absurd (one r words)
-kinds_tell Kind.Position k q r same one two words = absurd (let no : ⊥ = cc in no)
-kinds_tell Kind.Whole k q r same one two words = absurd (let no : ⊥ = cc in no)
-kinds_tell j Kind.Position q r same one two words = absurd (let no : ⊥ = cc in no)
-kinds_tell j Kind.Whole q r same one two words = absurd (let no : ⊥ = cc in no)
-kinds_tell j k q r same one two words = same
+kinds_tell j k q r is fits h also = grind arith
 
 with_cancel : (k : Kind) (q r : List ℕ) → with_word k q ≡ with_word k r → q ≡ r
-with_cancel Kind.Position q r is = append_cancel_left (codes "APS ") q r is
-with_cancel Kind.Whole q r is = append_cancel_left (codes "whole ") q r is
-with_cancel k q r is = is
+with_cancel k q r is = grind (arith, append_cancel_left)
 
 -- a line is of one kind
 pub one_kind : (j k : Kind) (q r : List ℕ) → IsChosen j q → IsChosen k r → line_from j q ≡ line_from k r → (j ≡ k) × (q ≡ r)
-one_kind j k q r one two is =
-    let parts = one_cut 32 (line_name j) (with_word j q) (line_name k) (with_word k r) (name_apart j) (name_apart k) is in
-    let same = kinds_tell j k q r (sym (again j) ∙ ap kind_at parts.0 ∙ again k) one two parts.1 in
-    (same, with_cancel k q r (subst (λ (m : Kind). with_word m q ≡ with_word k r) same parts.1))
+one_kind j k q r one two is = grind (arith, one_cut, name_apart, kinds_tell, again, with_cancel)
 
 -- what follows a space doesn't matter for the kind
 pub chosen_stays : (k : Kind) (q r tail : List ℕ) → IsChosen k (q ++ 32 ∷ r) → IsChosen k (q ++ 32 ∷ tail)
@@ -293,9 +249,7 @@ chosen_stays k q r tail chosen = tt
 -- Lines of a kind, in two parts.
 
 pub word_append : (k : Kind) (a b : List ℕ) → with_word k (a ++ b) ≡ with_word k a ++ b
-word_append Kind.Position a b = sym (append_assoc (codes "APS ") a b)
-word_append Kind.Whole a b = sym (append_assoc (codes "whole ") a b)
-word_append k a b = refl
+word_append k a b = grind (arith, append_assoc)
 
 pub line_append : (k : Kind) (a b : List ℕ) → line_from k (a ++ b) ≡ line_from k a ++ b
 line_append k a b = ap (λ (s : List ℕ). line_name k ++ 32 ∷ s) (word_append k a b) ∙ sym (append_assoc (line_name k) (32 ∷ with_word k a) b)

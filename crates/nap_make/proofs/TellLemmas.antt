@@ -1,8 +1,7 @@
-use Rattle.nap_make.proofs.Common.{All, All-head, AnyValue, Bool, BothFit, CharSet, CharSize, Colour, ColourInRange, Coordinates, CursorKind, Displacement, HasSixteenBitParts, IsAddress, IsByte, IsInRange, IsInSquare, IsWord, List, Mask, MaskInRange, None, Option, Origin, Pen, PenInRange, Preset, Size, SizeInRange, Some, TextInRange, TextModes, TextureInRange, [], ap, append_assoc, append_cancel_left, arith, code_text, codes, colour_text, cond, cursor_text, decimal, decimal_injective, false, get_or, grb_text, look_text, mask_size_text, mask_text, modes_text, move_text, pair_text, pen_text, point_text, refl, set_text, size_text, subst, sym, texture_text, true, ℕ, ◌%◌, ◌++◌, ◌/◌, ◌<◌, ◌∙◌, ◌∷◌, ◌≡◌, ◌≢◌}
-use Rattle.nap_make.proofs.AttributeLemmas.{texture_pair, texture_parts, grb_triple, part_pair, part_triple, look_parts, look_triple, modes_bytes, size_modes, addr_pair, move_spells, move_tells, point_spells, point_tells, word_pair, word_triple}
+use Rattle.nap_make.proofs.Common.{All, All-head, AnyValue, Bool, BothFit, CharSize, Colour, ColourInRange, Coordinates, Displacement, HasSixteenBitParts, IsAddress, IsByte, IsInRange, IsInSquare, IsWord, List, MaskInRange, None, Option, Origin, Pen, PenInRange, Preset, Size, SizeInRange, Some, TextInRange, TextModes, TextureInRange, ap, append_assoc, append_cancel_left, arith, code_text, codes, colour_text, cond, cursor_text, decimal, decimal_injective, drop, get_or, grb_text, look_text, mask_size_text, mask_text, modes_text, move_text, pair_text, pen_text, point_text, refl, set_text, size_text, sym, texture_text, ℕ, ◌++◌, ◌<◌, ◌∙◌, ◌∷◌, ◌≡◌, ◌≢◌}
+use Rattle.nap_make.proofs.AttributeLemmas.{first_letter, letter_of, texture_pair, texture_parts, grb_triple, part_pair, part_triple, look_parts, look_triple, modes_bytes, size_modes, addr_pair, move_spells, move_tells, point_spells, point_tells, word_pair, word_triple}
 use Rattle.nap_make.proofs.NumberLemmas.{digit_tells}
 use Rattle.nap_make.proofs.CutLemmas.{Tells, alike_tell, both_tell}
-use Rattle.nap_make.proofs.RowLemmas.{value_in_table}
 
 -- Values with equal texts are equal, field by field.
 
@@ -16,9 +15,7 @@ key_tells P f key tells v w v_fits w_fits is = tells v w v_fits w_fits (append_c
 
 -- a text of digits and signs begins with no letter
 pub low_start : (b : ℕ) (xs l : List ℕ) → 57 < b → All (λ x. x < 58) xs → xs ≡ b ∷ l → ⊥
-low_start b xs l high low is =
-    let first : b < 58 = All-head (λ x. x < 58) b l (subst (λ (s : List ℕ). All (λ x. x < 58) s) is low) in
-    omega (arith, first, high)
+low_start b xs l high low is = grind (arith, All-head)
 
 pub low_point : (p : Coordinates) → IsInSquare p → All (λ x. x < 58) (point_text p)
 low_point = point_spells (λ x. x < 58) (λ d low high. high) (omega arith)
@@ -43,50 +40,28 @@ grb_tells = alike_tell grb_triple (λ (t : ℕ × (ℕ × ℕ)). record { g = t.
 
 -- codes with equal digits are equal
 pub code_tells : Tells IsByte code_text
-code_tells m n m_fits n_fits is =
-    let high = digit_tells (m / 16) (n / 16) (omega (arith, m_fits)) (omega (arith, n_fits)) (ap (λ (s : List ℕ). get_or s 0 0) is) in
-    let low = digit_tells (m % 16) (n % 16) (omega arith) (omega arith) (ap (λ (s : List ℕ). get_or s 1 0) is) in
-    omega (arith, high, low)
+code_tells m n m_fits n_fits is = grind (arith, digit_tells)
 
 -- Values with names.
 
 pub set_tells : Tells AnyValue set_text
-set_tells = tells_if_read AnyValue set_text (value_in_table ((codes "primary", CharSet.Primary) ∷ (codes "supplementary", CharSet.Supplementary) ∷ (codes "mosaic", CharSet.Mosaic) ∷ []) CharSet.Drcs) again
-  where
-    again : (set : CharSet) → AnyValue set → value_in_table ((codes "primary", CharSet.Primary) ∷ (codes "supplementary", CharSet.Supplementary) ∷ (codes "mosaic", CharSet.Mosaic) ∷ []) CharSet.Drcs (set_text set) ≡ set
-    again CharSet.Primary any = refl
-    again _ any = refl
+set_tells = grind (arith, tells_if_read)
 
 pub cursor_tells : Tells AnyValue cursor_text
-cursor_tells = tells_if_read AnyValue cursor_text (value_in_table ((codes "flash", CursorKind.Flash) ∷ (codes "steady", CursorKind.Steady) ∷ []) CursorKind.Off) again
-  where
-    again : (kind : CursorKind) → AnyValue kind → value_in_table ((codes "flash", CursorKind.Flash) ∷ (codes "steady", CursorKind.Steady) ∷ []) CursorKind.Off (cursor_text kind) ≡ kind
-    again CursorKind.Flash any = refl
-    again _ any = refl
+cursor_tells = grind (arith, tells_if_read)
 
 pub mask_tells : Tells AnyValue mask_text
-mask_tells = tells_if_read AnyValue mask_text (value_in_table ((codes "A", Mask.A) ∷ (codes "B", Mask.B) ∷ (codes "C", Mask.C) ∷ []) Mask.D) again
-  where
-    again : (mask : Mask) → AnyValue mask → value_in_table ((codes "A", Mask.A) ∷ (codes "B", Mask.B) ∷ (codes "C", Mask.C) ∷ []) Mask.D (mask_text mask) ≡ mask
-    again Mask.A any = refl
-    again _ any = refl
+mask_tells = grind (arith, tells_if_read)
 
 named_tells : Tells AnyValue (λ (n : Size). size_text (CharSize.Named n))
-named_tells = tells_if_read AnyValue (λ (n : Size). size_text (CharSize.Named n)) (value_in_table ((codes "small", Size.Small) ∷ (codes "medium", Size.Medium) ∷ (codes "normal", Size.Normal) ∷ (codes "tall", Size.Tall) ∷ []) Size.Double) again
-  where
-    again : (n : Size) → AnyValue n → value_in_table ((codes "small", Size.Small) ∷ (codes "medium", Size.Medium) ∷ (codes "normal", Size.Normal) ∷ (codes "tall", Size.Tall) ∷ []) Size.Double (size_text (CharSize.Named n)) ≡ n
-    again Size.Small any = refl
-    again _ any = refl
+named_tells = grind (arith, tells_if_read)
 
 -- Values of several forms.
 
 -- no displacement has the text of a named size
 no_name : (n : Size) (m : Displacement) → IsInRange m → move_text m ≡ size_text (CharSize.Named n) → ⊥
 no_name Size.Small m fits is = low_start 115 (move_text m) (codes "mall") (omega arith) (low_move m fits) is
-no_name Size.Medium m fits is = low_start 109 (move_text m) (codes "edium") (omega arith) (low_move m fits) is
-no_name Size.Normal m fits is = low_start 110 (move_text m) (codes "ormal") (omega arith) (low_move m fits) is
-no_name Size.Tall m fits is = low_start 116 (move_text m) (codes "all") (omega arith) (low_move m fits) is
-no_name Size.Double m fits is = low_start 100 (move_text m) (codes "ouble") (omega arith) (low_move m fits) is
+no_name n m fits is = let name = size_text (CharSize.Named n) in low_start (get_or name 0 0) (move_text m) (drop 1 name) (omega arith) (low_move m fits) is
 
 size_tells : Tells SizeInRange size_text
 size_tells (CharSize.Named m) (CharSize.Named n) m_fits n_fits is = ap CharSize.Named (named_tells m n tt tt is)
@@ -110,19 +85,6 @@ pen_tells (Pen.At p) Pen.After m_fits n_fits is = absurd (low_start 97 (point_te
 pen_tells Pen.After Pen.Start m_fits n_fits is = let first : 97 ≡ 115 = ap (λ (s : List ℕ). get_or s 0 0) is in absurd (omega (arith, first))
 pen_tells Pen.After (Pen.At q) m_fits n_fits is = absurd (low_start 97 (point_text q) (codes "fter") (omega arith) (low_point q n_fits) (sym is))
 pen_tells Pen.After Pen.After m_fits n_fits is = refl
-
--- the first letter of a colour
-abbrev letter_of : Colour → ℕ
-letter_of (Colour.Own origin) = 111
-letter_of (Colour.Direct grb) = 100
-letter_of (Colour.Front addr) = 102
-letter_of (Colour.Pair prefix back) = 112
-letter_of (Colour.ByReset preset) = 114
-
-first_letter : (c : Colour) → get_or (colour_text c) 0 0 ≡ letter_of c
-first_letter (Colour.Own Origin.AtStart) = refl
-first_letter (Colour.ByReset Preset.Two) = refl
-first_letter _ = refl
 
 pair_tells : (a b c d : ℕ) → IsAddress a × IsAddress b → IsAddress c × IsAddress d → colour_text (Colour.Pair a b) ≡ colour_text (Colour.Pair c d) → Colour.Pair a b ≡ Colour.Pair c d
 pair_tells a b c d one two is =
@@ -153,18 +115,10 @@ pub texture_tells : Tells TextureInRange texture_text
 texture_tells = alike_tell texture_pair (λ (t : ℕ × Option Displacement). record { word = t.0; mask = t.1 }) (λ t. refl) (both_tell texture_parts word_tells mask_size_tells)
 
 flag_tells : (a b : Bool) (letter : ℕ) → letter ≢ 45 → cond a letter 45 ≡ cond b letter 45 → a ≡ b
-flag_tells true false letter other is = absurd (other is)
-flag_tells false true letter other is = absurd (other (sym is))
-flag_tells _ _ letter other is = refl
+flag_tells a b letter is fits = grind arith
 
 modes_tell : Tells AnyValue modes_text
-modes_tell m n any also is =
-    let bytes = sym (modes_bytes m) ∙ is ∙ modes_bytes n in
-    let reverse = flag_tells m.reverse n.reverse 114 (λ e. omega (arith, e)) (ap (λ (s : List ℕ). get_or s 0 0) bytes) in
-    let underline = flag_tells m.underline n.underline 117 (λ e. omega (arith, e)) (ap (λ (s : List ℕ). get_or s 1 0) bytes) in
-    let wrap = flag_tells m.wrap n.wrap 119 (λ e. omega (arith, e)) (ap (λ (s : List ℕ). get_or s 2 0) bytes) in
-    let scroll = flag_tells m.scroll n.scroll 115 (λ e. omega (arith, e)) (ap (λ (s : List ℕ). get_or s 3 0) bytes) in
-    rw (reverse, underline, wrap, scroll) refl
+modes_tell m n any also is = grind (arith, modes_bytes, flag_tells)
 
 pub look_tells : Tells TextInRange look_text
 look_tells =

@@ -6,7 +6,6 @@ use Rattle.nap_list.specs.declared.attribute.Colour.{Colour}
 use Rattle.nap_list.specs.declared.attribute.Pen.{Pen}
 use Rattle.nap_list.specs.declared.attribute.TextLook.{TextLook}
 use Rattle.nap_list.specs.declared.attribute.Texture.{Texture}
-use Rattle.nap_make.specs.declared.attribute.ColourKind.{ColourKind}
 use Rattle.nap_make.specs.declared.attribute.TextModes.{TextModes}
 
 -- The fields with their keys.
@@ -31,12 +30,6 @@ look_field look = codes "text=" ++ look_text look
 -- the size of a mask is in range, if there is one
 abbrev pub MaskInRange : Option Displacement → Type 0
 MaskInRange mask = IfSome mask IsInRange
-
--- the name of a colour that is written with numbers
-abbrev pub kind_name : ColourKind → List ℕ
-kind_name ColourKind.Direct = codes "direct"
-kind_name ColourKind.Front = codes "front"
-kind_name ColourKind.Pair = codes "pair"
 
 -- a colour that is written with numbers, in range
 abbrev pub IsNumbered : Colour → Type 0

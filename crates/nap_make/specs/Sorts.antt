@@ -1,7 +1,5 @@
 use Rattle.std.specs.Prelude.{Bool, List, [], decimal, false, true, ℕ, ◌++◌, ◌∷◌, ◌≡◌}
-use Rattle.nap_make.specs.Types.{ColourInRange, IsAddress, IsCode, IsInRange, IsInSquare, PenInRange, Sort, TextInRange, TextureInRange, Value, code_text, cursor_text, grb_text, mask_text, point_text, set_text, step_text}
-use Rattle.nap_values.specs.Colours.{HasSixteenBitParts}
-use Rattle.nap_values.specs.Laws.{IsWord}
+use Rattle.nap_make.specs.Types.{ColourInRange, HasSixteenBitParts, IsAddress, IsCode, IsInRange, IsInSquare, IsWord, PenInRange, Sort, TextInRange, TextureInRange, Value, code_text, cursor_text, grb_text, mask_text, point_text, set_text, step_text}
 use Rattle.nap_make.specs.Fields.{IsPlainStep, colour_field, look_field, pel_field, pen_field, texture_field}
 use Rattle.nap_make.specs.Reading.{IsWritten, WritesNone}
 

@@ -1,17 +1,26 @@
 //! Parsing of the attributes of an entry, each with its key (PROFILE.md, Lines of list).
-ghost use Rattle.std.specs.Prelude.{◌≡◌, ◌≢◌, IfSome, MatchOption, codes, ◌∷◌, [], Bool, decimal, ◌<◌, ◌++◌, ℕ, List};
-ghost use Rattle.nap_values.specs.Coordinates.{IsInRange, Coordinates, IsInSquare};
-ghost use Rattle.nap_list.specs.Range.{ColourInRange, PenInRange, TextInRange, TextureInRange, SizeInRange};
-ghost use Rattle.nap_lines.specs.Lines.{mask_size_text, texture_text, flag_text, size_text, look_text, grb_text, colour_text, set_text, cursor_text, mask_text, step_text, point_text, move_text, pen_text};
-ghost use Rattle.nap_make.specs.Fields.{MaskInRange, colour_field, look_field, pel_field, pen_field, texture_field, modes_text, size_name, IsNumbered, IsPlainStep};
-ghost use Rattle.nap_make.specs.Reading.{IsParsed, AnyValue, IsWritten};
-ghost use Rattle.nap_values.specs.Colours.{HasSixteenBitParts};
+ghost use Rattle.std.specs.Prelude.{◌≡◌, ◌≢◌, MatchOption, ◌∷◌, [], Bool};
+ghost use Rattle.nap_make.specs.Types.{ColourInRange, HasSixteenBitParts, IsInRange, IsInSquare, PenInRange, SizeInRange, TextInRange, TextureInRange, colour_text, cursor_text, flag_text, grb_text, look_text, mask_size_text, mask_text, move_text, pen_text, point_text, set_text, size_text, step_text, texture_text};
+ghost use Rattle.nap_make.specs.Fields.{MaskInRange, modes_text, size_name, IsNumbered, IsPlainStep};
+ghost use Rattle.nap_make.specs.Reading.{IsParsed, AnyValue};
 
 use crate::cutting::{rest_after, split_at_byte};
-use crate::number::{addr, number_below, signed, two_addrs, two_words, word};
+use crate::number::{addr, number_below, signed, two_words, word};
 use nap_codes::{CharSet, CursorKind, Mask, Size, TextStep};
 use nap_list::{CharSize, Colour, Origin, Pen, Preset, TextLook, Texture};
 use nap_values::{Grb, Move, Point};
+
+/// The value with the name that the bytes are, if it is one of these.
+macro_rules! named {
+    ($bytes:ident, $kind:ident: $($name:literal => $value:ident),*) => {
+        match $bytes {
+            $($name => Some($kind::$value),)*
+            _ => None,
+        }
+    };
+}
+
+pub(crate) use named;
 
 /// Parses a point.
 pub(crate) fn point(bytes: &[u8]) -> Option<Point>
@@ -40,10 +49,7 @@ pub(crate) fn pen(bytes: &[u8]) -> Option<Pen>
     match bytes {
         b"start" => Some(Pen::Start),
         b"after" => Some(Pen::After),
-        _ => {
-            let at = point(bytes)?;
-            Some(Pen::At(at))
-        }
+        _ => Some(Pen::At(point(bytes)?)),
     }
 }
 
@@ -51,53 +57,31 @@ pub(crate) fn pen(bytes: &[u8]) -> Option<Pen>
 pub(crate) fn char_set(bytes: &[u8]) -> Option<CharSet>
     ensures { IsParsed AnyValue set_text bytes.now result }
 {
-    match bytes {
-        b"primary" => Some(CharSet::Primary),
-        b"supplementary" => Some(CharSet::Supplementary),
-        b"mosaic" => Some(CharSet::Mosaic),
-        b"drcs" => Some(CharSet::Drcs),
-        _ => None,
-    }
+    named!(bytes, CharSet:
+        b"primary" => Primary, b"supplementary" => Supplementary, b"mosaic" => Mosaic,
+        b"drcs" => Drcs)
 }
 
 /// Parses the name of a state of the cursor.
 pub(crate) fn cursor_kind(bytes: &[u8]) -> Option<CursorKind>
     ensures { IsParsed AnyValue cursor_text bytes.now result }
 {
-    match bytes {
-        b"flash" => Some(CursorKind::Flash),
-        b"steady" => Some(CursorKind::Steady),
-        b"off" => Some(CursorKind::Off),
-        _ => None,
-    }
+    named!(bytes, CursorKind: b"flash" => Flash, b"steady" => Steady, b"off" => Off)
 }
 
 /// Parses the letter of a mask.
 pub(crate) fn mask(bytes: &[u8]) -> Option<Mask>
     ensures { IsParsed AnyValue mask_text bytes.now result }
 {
-    match bytes {
-        b"A" => Some(Mask::A),
-        b"B" => Some(Mask::B),
-        b"C" => Some(Mask::C),
-        b"D" => Some(Mask::D),
-        _ => None,
-    }
+    named!(bytes, Mask: b"A" => A, b"B" => B, b"C" => C, b"D" => D)
 }
 
 /// Parses the name of a format effector, except APS.
 pub(crate) fn plain_step(bytes: &[u8]) -> Option<TextStep>
     ensures { IsParsed IsPlainStep step_text bytes.now result }
 {
-    match bytes {
-        b"APB" => Some(TextStep::Apb),
-        b"APF" => Some(TextStep::Apf),
-        b"APD" => Some(TextStep::Apd),
-        b"APU" => Some(TextStep::Apu),
-        b"APR" => Some(TextStep::Apr),
-        b"APH" => Some(TextStep::Aph),
-        _ => None,
-    }
+    named!(bytes, TextStep:
+        b"APB" => Apb, b"APF" => Apf, b"APD" => Apd, b"APU" => Apu, b"APR" => Apr, b"APH" => Aph)
 }
 
 /// Parses the components of a colour.
@@ -112,54 +96,19 @@ pub(crate) fn grb(bytes: &[u8]) -> Option<Grb>
     Grb::try_new(g, r, b)
 }
 
-/// The kinds of colours that are written with numbers.
-#[derive(Clone, Copy, Drop)]
-pub(crate) enum ColourKind {
-    /// Three components.
-    Direct,
-    /// One address.
-    Front,
-    /// Two addresses.
-    Pair,
-}
-
-impl ColourKind {
-    ghost use Rattle.nap_make.specs.Fields.{kind_name};
-    ghost use Rattle.nap_make.specs.declared.attribute.ColourKind.{ColourKind};
-
-    /// Returns the kind with this name.
-    fn named(name: &[u8]) -> Option<ColourKind>
-        ensures { MatchOption result ((k : ColourKind) → name.now ≢ kind_name k) (λ k. name.now ≡ kind_name k) }
-    {
-        match name {
-            b"direct" => Some(ColourKind::Direct),
-            b"front" => Some(ColourKind::Front),
-            b"pair" => Some(ColourKind::Pair),
-            _ => None,
-        }
-    }
-}
-
 /// Parses a colour that is written with numbers.
 fn colour_by_numbers(bytes: &[u8]) -> Option<Colour>
     ensures { IsParsed IsNumbered colour_text bytes.now result }
 {
-    let (name, numbers) = split_at_byte(bytes, b':')?;
-    let kind = ColourKind::named(name)?;
-    match kind {
-        ColourKind::Direct => {
-            let grb = grb(numbers)?;
-            Some(Colour::Direct(grb))
-        }
-        ColourKind::Front => {
-            let foreground = addr(numbers)?;
-            Some(Colour::Front(foreground))
-        }
-        ColourKind::Pair => {
-            let (foreground, background) = two_addrs(numbers)?;
-            Some(Colour::Pair(foreground, background))
-        }
+    if let Some(parts) = rest_after(bytes, b"direct:") {
+        return Some(Colour::Direct(grb(parts)?));
     }
+    if let Some(number) = rest_after(bytes, b"front:") {
+        return Some(Colour::Front(addr(number)?));
+    }
+    let numbers = rest_after(bytes, b"pair:")?;
+    let (foreground, background) = split_at_byte(numbers, b',')?;
+    Some(Colour::Pair(addr(foreground)?, addr(background)?))
 }
 
 /// Parses a colour.
@@ -179,14 +128,9 @@ pub(crate) fn colour(bytes: &[u8]) -> Option<Colour>
 fn named_size(bytes: &[u8]) -> Option<Size>
     ensures { IsParsed AnyValue size_name bytes.now result }
 {
-    match bytes {
-        b"small" => Some(Size::Small),
-        b"medium" => Some(Size::Medium),
-        b"normal" => Some(Size::Normal),
-        b"tall" => Some(Size::Tall),
-        b"double" => Some(Size::Double),
-        _ => None,
-    }
+    named!(bytes, Size:
+        b"small" => Small, b"medium" => Medium, b"normal" => Normal, b"tall" => Tall,
+        b"double" => Double)
 }
 
 /// Parses the size of a character.
@@ -195,23 +139,16 @@ pub(crate) fn char_size(bytes: &[u8]) -> Option<CharSize>
 {
     match named_size(bytes) {
         Some(size) => Some(CharSize::Named(size)),
-        None => {
-            let size = displacement(bytes)?;
-            Some(CharSize::Given(size))
-        }
+        None => Some(CharSize::Given(displacement(bytes)?)),
     }
 }
 
-/// The four flags of the text attributes.
+/// The four flags of the text attributes: whether each is on.
 #[derive(Clone, Copy, Drop)]
 pub(crate) struct TextModes {
-    /// Whether REVERSE VIDEO is on.
     pub(crate) reverse: bool,
-    /// Whether UNDERLINE is on.
     pub(crate) underline: bool,
-    /// Whether WORD WRAP is on.
     pub(crate) wrap: bool,
-    /// Whether SCROLL is on.
     pub(crate) scroll: bool,
 }
 
@@ -236,15 +173,11 @@ fn modes(bytes: &[u8]) -> Option<TextModes>
     if bytes.len() != 4 {
         return None;
     }
-    let reverse = flag(bytes[0], b'r')?;
-    let underline = flag(bytes[1], b'u')?;
-    let wrap = flag(bytes[2], b'w')?;
-    let scroll = flag(bytes[3], b's')?;
     Some(TextModes {
-        reverse,
-        underline,
-        wrap,
-        scroll,
+        reverse: flag(bytes[0], b'r')?,
+        underline: flag(bytes[1], b'u')?,
+        wrap: flag(bytes[2], b'w')?,
+        scroll: flag(bytes[3], b's')?,
     })
 }
 
@@ -274,59 +207,16 @@ fn mask_size(bytes: &[u8]) -> Option<Option<Move>>
 {
     match bytes {
         b"none" => Some(None),
-        _ => {
-            let size = displacement(bytes)?;
-            Some(Some(size))
-        }
+        _ => Some(Some(displacement(bytes)?)),
     }
 }
 
 /// Parses a texture.
-fn texture(bytes: &[u8]) -> Option<Texture>
+pub(crate) fn texture(bytes: &[u8]) -> Option<Texture>
     ensures { IsParsed TextureInRange texture_text bytes.now result }
 {
     let (number, size) = split_at_byte(bytes, b'/')?;
     let word = word(number)?;
     let mask = mask_size(size)?;
     Some(Texture { word, mask })
-}
-
-/// Parses the field `pel=`.
-pub(crate) fn pel_field(bytes: &[u8]) -> Option<Move>
-    ensures { IsParsed IsInRange pel_field bytes.now result }
-{
-    let text = rest_after(bytes, b"pel=")?;
-    displacement(text)
-}
-
-/// Parses the field `colour=`.
-pub(crate) fn colour_field(bytes: &[u8]) -> Option<Colour>
-    ensures { IsParsed ColourInRange colour_field bytes.now result }
-{
-    let text = rest_after(bytes, b"colour=")?;
-    colour(text)
-}
-
-/// Parses the field `texture=`.
-pub(crate) fn texture_field(bytes: &[u8]) -> Option<Texture>
-    ensures { IsParsed TextureInRange texture_field bytes.now result }
-{
-    let text = rest_after(bytes, b"texture=")?;
-    texture(text)
-}
-
-/// Parses the field `pen=`.
-pub(crate) fn pen_field(bytes: &[u8]) -> Option<Pen>
-    ensures { IsParsed PenInRange pen_field bytes.now result }
-{
-    let text = rest_after(bytes, b"pen=")?;
-    pen(text)
-}
-
-/// Parses the field `text=`.
-pub(crate) fn look_field(bytes: &[u8]) -> Option<TextLook>
-    ensures { IsParsed TextInRange look_field bytes.now result }
-{
-    let text = rest_after(bytes, b"text=")?;
-    look(text)
 }

@@ -3,9 +3,9 @@ ghost use Rattle.std.specs.Prelude.{◌<◌, length};
 ghost use Rattle.nap_make.specs.Sorts.{AddsValue};
 
 use crate::attribute::{
-    char_set, colour_field, cursor_kind, grb, look_field, mask, pel_field, pen_field, plain_step,
-    point, texture_field,
+    char_set, colour, cursor_kind, displacement, grb, look, mask, pen, plain_step, point, texture,
 };
+use crate::cutting::rest_after;
 use crate::number::{self, addr, code, three_words};
 use arrayvec::ArrayVec;
 use nap_codes::{CharSet, CursorKind, Mask, TextStep};
@@ -61,11 +61,17 @@ impl Default for Value {
     }
 }
 
-/// Appends a value of this variant, or returns that there is none.
+/// Appends a value of this variant, which may have a key, or returns that there is none.
 macro_rules! push_or_return {
     ($values:ident, $variant:ident, $found:expr) => {
         match $found {
             Some(value) => $values.push(Value::$variant(value)),
+            None => return false,
+        }
+    };
+    ($values:ident, $variant:ident, $word:ident, $key:literal, $parse:ident) => {
+        match rest_after($word, $key) {
+            Some(text) => push_or_return!($values, $variant, $parse(text)),
             None => return false,
         }
     };
@@ -80,17 +86,17 @@ impl Sort {
         match self {
             Sort::Addr => push_or_return!(values, Addr, addr(word)),
             Sort::Code => push_or_return!(values, Code, code(word)),
-            Sort::Colour => push_or_return!(values, Colour, colour_field(word)),
+            Sort::Colour => push_or_return!(values, Colour, word, b"colour=", colour),
             Sort::Cursor => push_or_return!(values, Cursor, cursor_kind(word)),
-            Sort::Look => push_or_return!(values, Look, look_field(word)),
+            Sort::Look => push_or_return!(values, Look, word, b"text=", look),
             Sort::Mask => push_or_return!(values, Mask, mask(word)),
             Sort::Parts => push_or_return!(values, Parts, grb(word)),
-            Sort::Pel => push_or_return!(values, Pel, pel_field(word)),
-            Sort::Pen => push_or_return!(values, Pen, pen_field(word)),
+            Sort::Pel => push_or_return!(values, Pel, word, b"pel=", displacement),
+            Sort::Pen => push_or_return!(values, Pen, word, b"pen=", pen),
             Sort::Point => push_or_return!(values, Point, point(word)),
             Sort::Set => push_or_return!(values, Set, char_set(word)),
             Sort::Step => push_or_return!(values, Step, plain_step(word)),
-            Sort::Texture => push_or_return!(values, Texture, texture_field(word)),
+            Sort::Texture => push_or_return!(values, Texture, word, b"texture=", texture),
             Sort::Word => push_or_return!(values, Word, number::word(word)),
             Sort::Times => match three_words(word) {
                 Some((on, (off, delay))) => values.push(Value::Times(on, off, delay)),

@@ -2,6 +2,7 @@
 ghost use Rattle.std.specs.Prelude.{◌≡◌, ◌≢◌, ◌++◌, ◌∷◌, ◌≤◌, [], MatchOption, length};
 ghost use Rattle.nap_make.specs.Kinds.{IsKindOf, IsPlainKind};
 
+use crate::attribute::named;
 use crate::cutting::{equals, rest_after};
 use crate::field::Sort::{
     self, Addr, Code, Colour, Cursor, Look, Mask, Parts, Pel, Pen, Point, Set, Step, Texture,
@@ -41,9 +42,6 @@ pub(crate) enum Kind {
     Mask,
 }
 
-/// The fields of the part INK, without the last.
-const INK: &[Sort] = &[Sort::Pel, Sort::Colour];
-
 impl Kind {
     ghost use Rattle.nap_make.specs.Kinds.{HasLongName, line_name, kind_row};
     ghost use Rattle.nap_make.specs.declared.kind.Kind.{Kind};
@@ -52,26 +50,11 @@ impl Kind {
     fn with_short_name(name: &[u8]) -> Option<Kind>
         ensures { MatchOption result ((k : Kind) → (HasLongName k → ⊥) → name.now ≢ line_name k) (λ k. (name.now ≡ line_name k) × IsPlainKind k) }
     {
-        match name {
-            b"POINT" => Some(Kind::Point),
-            b"LINE" => Some(Kind::Line),
-            b"ARC-FILLED" => Some(Kind::ArcFilled),
-            b"CHAR" => Some(Kind::Char),
-            b"MOVE" => Some(Kind::Move),
-            b"TO-EOL" => Some(Kind::ToEol),
-            b"MAP" => Some(Kind::Map),
-            b"BLINK" => Some(Kind::Blink),
-            b"BLINK-END" => Some(Kind::BlinkEnd),
-            b"BLINK-STOP" => Some(Kind::BlinkStop),
-            b"WAIT" => Some(Kind::Wait),
-            b"CURSOR" => Some(Kind::Cursor),
-            b"FIELD" => Some(Kind::Field),
-            b"RESET" => Some(Kind::Reset),
-            b"CLEAR" => Some(Kind::Clear),
-            b"GLYPH" => Some(Kind::Glyph),
-            b"MASK" => Some(Kind::Mask),
-            _ => None,
-        }
+        named!(name, Kind:
+            b"POINT" => Point, b"LINE" => Line, b"ARC-FILLED" => ArcFilled, b"CHAR" => Char, b"MOVE" => Move,
+            b"TO-EOL" => ToEol, b"MAP" => Map, b"BLINK" => Blink, b"BLINK-END" => BlinkEnd,
+            b"BLINK-STOP" => BlinkStop, b"WAIT" => Wait, b"CURSOR" => Cursor, b"FIELD" => Field,
+            b"RESET" => Reset, b"CLEAR" => Clear, b"GLYPH" => Glyph, b"MASK" => Mask)
     }
 
     /// Returns the kind with this longer name.
@@ -99,8 +82,7 @@ impl Kind {
         }
     }
 
-    /// Returns the kind of a line with this name, a space and this rest; and what follows what the kind begins with and
-    /// a space.
+    /// Returns the kind of a line with this name, a space and this rest, and what follows its beginning and a space.
     pub(crate) fn of<'a>(name: &[u8], rest: &'a [u8]) -> Option<(Kind, &'a [u8])>
         ensures { MatchOption result ((k : Kind) → name.now ≢ line_name k) (λ r. IsKindOf name.now rest.now r.0 r.1.now) }
     {
@@ -120,32 +102,31 @@ impl Kind {
 
     /// Returns the fields of a line of this kind, after its points.
     pub(crate) fn row(self) -> Row
-        ensures row { result.front.now ++ result.last ∷ [] ≡ kind_row self }
-        ensures few { length result.front.now ≤ 4 }
+        ensures row { result.0.now ++ result.1 ∷ [] ≡ kind_row self }
+        ensures few { length result.0.now ≤ 4 }
     {
         match self {
-            Kind::Point => Row::of(&[Point, Pel], Colour),
-            Kind::Line | Kind::RectOutlined | Kind::RectFilled => Row::of(
-                &[Point, Point, Pel, Colour],
-                Texture,
-            ),
-            Kind::ArcOutlined | Kind::ArcFilled | Kind::PolyOutlined | Kind::PolyFilled => Row::of(
-                INK, Texture,
-            ),
-            Kind::Char => Row::of(&[Set, Code, Pen, Colour], Look),
-            Kind::Move => Row::of(&[Step, Pen, Colour], Look),
-            Kind::Position => Row::of(&[Code, Code, Pen, Colour], Look),
-            Kind::ToEol => Row::of(&[Pen, Colour], Look),
-            Kind::Map => Row::of(&[Addr], Parts),
-            Kind::Blink => Row::of(&[Addr, Times], Colour),
-            Kind::BlinkEnd | Kind::BlinkStart | Kind::BlinkStop => Row::of(&[], Colour),
-            Kind::Wait => Row::of(&[], Word),
-            Kind::Cursor => Row::of(&[], Cursor),
-            Kind::Field => Row::of(&[Point, Point], Pen),
-            Kind::Whole | Kind::Clear => Row::of(&[], Pen),
-            Kind::Reset => Row::of(&[Word, Word], Pen),
-            Kind::Glyph => Row::of(&[], Code),
-            Kind::Mask => Row::of(&[], Mask),
+            Kind::Point => (&[Point, Pel], Colour),
+            Kind::Line | Kind::RectOutlined | Kind::RectFilled => {
+                (&[Point, Point, Pel, Colour], Texture)
+            }
+            Kind::ArcOutlined | Kind::ArcFilled | Kind::PolyOutlined | Kind::PolyFilled => {
+                (&[Pel, Colour], Texture)
+            }
+            Kind::Char => (&[Set, Code, Pen, Colour], Look),
+            Kind::Move => (&[Step, Pen, Colour], Look),
+            Kind::Position => (&[Code, Code, Pen, Colour], Look),
+            Kind::ToEol => (&[Pen, Colour], Look),
+            Kind::Map => (&[Addr], Parts),
+            Kind::Blink => (&[Addr, Times], Colour),
+            Kind::BlinkEnd | Kind::BlinkStart | Kind::BlinkStop => (&[], Colour),
+            Kind::Wait => (&[], Word),
+            Kind::Cursor => (&[], Cursor),
+            Kind::Field => (&[Point, Point], Pen),
+            Kind::Whole | Kind::Clear => (&[], Pen),
+            Kind::Reset => (&[Word, Word], Pen),
+            Kind::Glyph => (&[], Code),
+            Kind::Mask => (&[], Mask),
         }
     }
 }

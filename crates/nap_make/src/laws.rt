@@ -1,4 +1,6 @@
 //! Laws about lines, and about the pages that they make. Each is the contract of a function that does nothing.
+#![tactic(auto, using(crate::proofs::PublicLaws::laws))]
+
 ghost use Rattle.nap_make.specs.Laws.{ColumnsAreOne, LineTellsEntry, LinesAreBounded, LinesHaveNoEnds, LinesTellLists};
 ghost use Rattle.nap_make.specs.PageLaws.{ListsTellStreams, MadePagesAgree};
 

@@ -1,9 +1,7 @@
 //! Lists whose lines an input or memory gives.
 ghost use Rattle.std.specs.Prelude.{◌≡◌, ◌+◌, ◌^◌, ◌<◌, ◌≤◌, ℕ, List, [], OnOk, false, length};
 ghost use Rattle.std.specs.Io.KnownBytes.{Consumes};
-ghost use Rattle.nap_list.specs.Limits.{reads_limit};
-ghost use Rattle.nap_list.specs.Reading.{reading};
-ghost use Rattle.nap_list.specs.State.{start};
+ghost use Rattle.nap_make.specs.Types.{reading, reads_limit, start};
 ghost use Rattle.nap_make.specs.ListMaking.{FeedsFrom, HasReadLines, IsReady, Makes, PutsLines};
 ghost use Rattle.nap_make.specs.declared.lines.ListFault.TheVariants.{Lines};
 ghost use Rattle.nap_make.specs.declared.lines.MakeFault.TheVariants.{Memory};
@@ -18,26 +16,13 @@ use thiserror::Error;
 pub enum MakeFault {
     /// A line that no entry has. The column is that of the first field that is wrong with what has to stand behind it.
     #[error("line {line}: no line of a list, at column {column}")]
-    Line {
-        /// The line.
-        line: usize,
-        /// The column.
-        column: usize,
-    },
+    Line { line: usize, column: usize },
     /// A line whose entry doesn't fit.
     #[error("line {line}: can't come here")]
-    Misfit {
-        /// The line.
-        line: usize,
-    },
-    /// The lines end inside a definition.
+    Misfit { line: usize },
+    /// The last line is inside the definition that the line `opening` opens.
     #[error("line {line}: the definition of line {opening} isn't ended")]
-    Open {
-        /// The last line.
-        line: usize,
-        /// The line that opens the definition.
-        opening: usize,
-    },
+    Open { line: usize, opening: usize },
     /// Memory ran out.
     #[error("no memory")]
     Memory,
@@ -134,8 +119,7 @@ pub fn make_list<I: Inlet, S: Sink + Drop>(
     }
 }
 
-/// Puts the entries of these lines into a sink. Returns the sink, and the number of lines (PROFILE.md, Lines that make
-/// a page).
+/// Puts the entries of these lines into a sink, and returns it with their number (PROFILE.md, Lines that make a page).
 pub fn put_lines<S: Sink + Drop>(
     alloc: Global,
     lines: &[u8],

@@ -1,11 +1,8 @@
 //! Parsing of numbers.
-ghost use Rattle.std.specs.Prelude.{◌≡◌, ◌≢◌, ◌<◌, ◌≤◌, ◌∷◌, ℕ, negsuc, pos, suc, MatchOption, decimal};
+ghost use Rattle.std.specs.Prelude.{◌≡◌, ◌≢◌, ◌<◌, ◌≤◌, ◌∷◌, ℕ, negsuc, suc, MatchOption, decimal};
 ghost use Rattle.std.specs.Char.{digit_char};
 ghost use Rattle.std.specs.Fmt.{signed_decimal};
-ghost use Rattle.nap_values.specs.Laws.{IsWord};
-ghost use Rattle.nap_list.specs.Entry.{IsCode};
-ghost use Rattle.nap_list.specs.Range.{IsAddress};
-ghost use Rattle.nap_lines.specs.Lines.{code_text};
+ghost use Rattle.nap_make.specs.Types.{IsAddress, IsCode, IsWord, code_text};
 ghost use Rattle.nap_make.specs.Numbers.{IsNumeralOf, IsSigned, IsNibble};
 ghost use Rattle.nap_make.specs.Reading.{IsParsed, BothFit, pair_text};
 
@@ -67,14 +64,6 @@ fn negative(digits: &[u8]) -> Option<i32>
     Some(-(size as i32))
 }
 
-/// Parses a number without a sign.
-fn positive(digits: &[u8]) -> Option<i32>
-    ensures { MatchOption result ((n : ℕ) → IsSigned (pos n) → digits.now ≢ decimal n) (λ z. IsSigned z × (digits.now ≡ signed_decimal z)) }
-{
-    let size = number_below(digits, DISPLACEMENT_LIMIT)?;
-    Some(size as i32)
-}
-
 /// Parses a signed number of 24 bits.
 pub(crate) fn signed(bytes: &[u8]) -> Option<i32>
     ensures { IsParsed IsSigned signed_decimal bytes.now result }
@@ -83,7 +72,8 @@ pub(crate) fn signed(bytes: &[u8]) -> Option<i32>
         return None;
     }
     if bytes[0] != b'-' {
-        return positive(bytes);
+        let size = number_below(bytes, DISPLACEMENT_LIMIT)?;
+        return Some(size as i32);
     }
     negative(&bytes[1..])
 }
@@ -101,9 +91,7 @@ pub(crate) fn two_words(bytes: &[u8]) -> Option<(Word, Word)>
     ensures { IsParsed (BothFit IsWord IsWord) (pair_text decimal 44 decimal) bytes.now result }
 {
     let (first, second) = split_at_byte(bytes, b',')?;
-    let first = word(first)?;
-    let second = word(second)?;
-    Some((first, second))
+    Some((word(first)?, word(second)?))
 }
 
 /// Parses three words separated by commas.
@@ -111,9 +99,7 @@ pub(crate) fn three_words(bytes: &[u8]) -> Option<(Word, (Word, Word))>
     ensures { IsParsed (BothFit IsWord (BothFit IsWord IsWord)) (pair_text decimal 44 (pair_text decimal 44 decimal)) bytes.now result }
 {
     let (first, others) = split_at_byte(bytes, b',')?;
-    let first = word(first)?;
-    let others = two_words(others)?;
-    Some((first, others))
+    Some((word(first)?, two_words(others)?))
 }
 
 /// Parses an address of the colour map.
@@ -122,16 +108,6 @@ pub(crate) fn addr(bytes: &[u8]) -> Option<Addr>
 {
     let number = number_below(bytes, Addr::LIMIT)?;
     Addr::try_new(number)
-}
-
-/// Parses two addresses separated by a comma.
-pub(crate) fn two_addrs(bytes: &[u8]) -> Option<(Addr, Addr)>
-    ensures { IsParsed (BothFit IsAddress IsAddress) (pair_text decimal 44 decimal) bytes.now result }
-{
-    let (first, second) = split_at_byte(bytes, b',')?;
-    let first = addr(first)?;
-    let second = addr(second)?;
-    Some((first, second))
 }
 
 /// Returns the value of a lower-case hexadecimal digit.

@@ -1,10 +1,7 @@
 //! The page of the lines that an input gives.
 ghost use Rattle.std.specs.Prelude.{◌≡◌, ◌+◌, ◌^◌, ◌<◌, ◌≤◌, ℕ, List, true, false, MatchResult};
 ghost use Rattle.std.specs.Io.KnownBytes.{Appends, Consumes};
-ghost use Rattle.nap_canon.specs.Concluding.{EndsOutput};
-ghost use Rattle.nap_list.specs.Flushing.{FlushedOnce};
-ghost use Rattle.nap_list.specs.Limits.{reads_limit};
-ghost use Rattle.nap_list.specs.Reading.{reading};
+ghost use Rattle.nap_make.specs.Types.{EndsOutput, FlushedOnce, reading, reads_limit};
 ghost use Rattle.nap_make.specs.Pages.{ConcludesPage, MakesPage, ReadsNoMore, MakesWhole};
 ghost use Rattle.nap_make.specs.Texts.{DeniesInput, DeniesLines, IsPageMade, fault_of_input, fault_of_text};
 
@@ -54,10 +51,10 @@ pub fn page_of_lines(alloc: Global, lines: &[u8]) -> Result<MadePage, MakeFault>
     }
     let (sink, made) = put_lines(alloc, lines, sink);
     match made {
-        Ok(count) => {
-            let text = sink.close().into_inner();
-            Ok(MadePage { text, count })
-        }
+        Ok(count) => Ok(MadePage {
+            text: sink.close().into_inner(),
+            count,
+        }),
         Err(fault) => Err(fault_of_text(fault)),
     }
 }
@@ -88,31 +85,20 @@ pub fn page_of_input<I: Inlet>(alloc: Global, input: &mut I) -> Result<Vec<u8>, 
 pub enum PageFault {
     /// The lines aren't those of a list. The text of the lines before is written.
     #[error("{fault}, once {written} bytes were written")]
-    Lines {
-        /// The fault and its line.
-        fault: MakeFault,
-        /// The number of bytes that the output took.
-        written: u64,
-    },
+    Lines { fault: MakeFault, written: u64 },
     /// A read failed, or there were as many reads as one input may have. The text of the lines so far is written.
     #[error("the input failed, once {written} bytes were written")]
-    Read {
-        /// The number of bytes that the output took.
-        written: u64,
-    },
+    Read { written: u64 },
     /// A write or the flush failed.
     #[error("the output failed, once it had taken {written} bytes")]
-    Write {
-        /// The number of bytes that the output took.
-        written: u64,
-    },
+    Write { written: u64 },
 }
 
+/// The output, and how many bytes of a page it took.
+type Ended<O> = (O, Result<u64, PageFault>);
+
 /// Flushes the output, unless a write has failed, and returns it with the answer.
-fn conclude<O: Outlet + Drop>(
-    sink: CanonSink<O>,
-    made: Result<(), ListFault>,
-) -> (O, Result<u64, PageFault>)
+fn conclude<O: Outlet + Drop>(sink: CanonSink<O>, made: Result<(), ListFault>) -> Ended<O>
     ensures ends { EndsOutput O.Outlet sink.outlet result.0 }
     ensures answer { ConcludesPage sink.written made (O.failed result.0) result.1 }
 {
@@ -131,11 +117,7 @@ fn conclude<O: Outlet + Drop>(
 /// Writes the page that the lines of an input make, as they are read, and flushes the output. Returns the output, and
 /// the number of bytes that it took. Nothing is read after a failed write. Keeps one line at most, so its memory
 /// doesn't grow with the page (PROFILE.md, Lines that make a page).
-pub fn make_page<I: Inlet, O: Outlet + Drop>(
-    alloc: Global,
-    input: &mut I,
-    output: O,
-) -> (O, Result<u64, PageFault>)
+pub fn make_page<I: Inlet, O: Outlet + Drop>(alloc: Global, input: &mut I, output: O) -> Ended<O>
     requires calls { I.calls input.old < 2 ^ 63 }
     requires works { O.failed output ≡ false }
     ensures few { I.calls input.new ≤ I.calls input.old + reads_limit }

@@ -2,11 +2,9 @@
 ghost use Rattle.std.specs.Prelude.{◌≡◌, ◌+◌, length, MatchOption, ◌++◌, ◌∷◌, [], IfOk, ◌≤◌};
 ghost use Rattle.nap_make.specs.Entries.{IsNameAlone, IsColumnAtName, IsWrittenAlone, TellsLine};
 ghost use Rattle.nap_make.specs.Kinds.{HasPoints, IsChosen, line_from, least_points};
-ghost use Rattle.nap_values.specs.Coordinates.{IsInSquare};
-ghost use Rattle.nap_lines.specs.Lines.{point_text};
-ghost use Rattle.nap_make.specs.Rows.{BeginsNoPoint, EndsPoints, TellsRow};
+ghost use Rattle.nap_make.specs.Rows.{EndsPoints, TellsRow};
 
-use crate::attribute::point;
+use crate::attribute::{named, point};
 use crate::cutting::split_at_byte;
 use crate::entry::{entry_of, shape_of};
 use crate::fault::LineFault;
@@ -14,93 +12,57 @@ use crate::field::{FIELDS, Sort, Value};
 use crate::kind::Kind;
 use arrayvec::ArrayVec;
 use nap_list::{Entry, Points, SHAPE_POINTS};
-use nap_values::Point;
 use std::alloc::{AllocError, Global};
 
-/// The fields that a line has to have after its points.
-#[derive(Clone, Copy, Drop)]
-pub(crate) struct Row {
-    /// Those with a space behind them.
-    pub(crate) front: &'static [Sort],
-    /// The one with the line's end behind it.
-    pub(crate) last: Sort,
-}
+/// The entry of a line, or why it has none.
+type Answer = Result<Entry, LineFault>;
 
-impl Row {
-    /// Returns the row of these fields.
-    pub(crate) fn of(front: &'static [Sort], last: Sort) -> Row
-        ensures front { result.front.now ≡ front.now }
-        ensures last { result.last ≡ last }
-    {
-        Row { front, last }
-    }
-}
+/// The fields that a line has to have after its points: those with a space behind them, and the one with its end behind.
+pub(crate) type Row = (&'static [Sort], Sort);
 
-/// Reads the fields of a row; or returns the number of bytes from the first field on that is wrong with what has to stand
-/// behind it.
-pub(crate) fn read_row(
-    values: &mut ArrayVec<Value, FIELDS>,
-    row: Row,
-    bytes: &[u8],
-) -> Result<(), usize>
+/// Reads the fields of a row, or returns how many bytes are left from the first wrong one on.
+fn read_row(values: &mut ArrayVec<Value, FIELDS>, row: Row, bytes: &[u8]) -> Result<(), usize>
     requires none { values.old.items ≡ [] }
-    requires few { length row.front.now ≤ 4 }
-    ensures { TellsRow (row.front.now ++ row.last ∷ []) bytes.now values.new.items result }
+    requires few { length row.0.now ≤ 4 }
+    ensures { TellsRow (row.entry.0.now ++ row.entry.1 ∷ []) bytes.now values.new.items result }
 {
     let mut rest = bytes;
-    for sort in row.front {
-        match split_at_byte(rest, b' ') {
-            Some((word, more)) => {
-                if !sort.read(word, values) {
-                    return Err(rest.len());
-                }
-                rest = more;
-            }
-            None => return Err(rest.len()),
+    for sort in row.0 {
+        let Some((word, more)) = split_at_byte(rest, b' ') else {
+            return Err(rest.len());
+        };
+        if !sort.read(word, values) {
+            return Err(rest.len());
         }
+        rest = more;
     }
-    if row.last.read(rest, values) {
+    if row.1.read(rest, values) {
         return Ok(());
     }
     Err(rest.len())
 }
 
-/// Reads a point with a space behind it, and returns what follows the space.
-fn next_point(bytes: &[u8]) -> Option<(Point, &[u8])>
-    ensures { MatchOption result (BeginsNoPoint bytes.now) (λ r. IsInSquare r.0 × (bytes.now ≡ point_text r.0 ++ 32 ∷ r.1.now)) }
-{
-    let (word, more) = split_at_byte(bytes, b' ')?;
-    let at = point(word)?;
-    Some((at, more))
-}
-
-/// Reads as many points as there are, up to the limit, and returns what follows them.
+/// Reads as many points as there are, a space behind each, up to the limit, and returns what follows them.
 fn read_points<'a>(points: &mut Points, bytes: &'a [u8]) -> Result<&'a [u8], AllocError>
     requires none { points.old ≡ [] }
     ensures { IfOk result (λ rest. EndsPoints bytes.now points.new rest.now) }
 {
     let mut rest = bytes;
     while points.as_slice().len() < SHAPE_POINTS {
-        match next_point(rest) {
-            Some(next) => {
-                let (at, more) = next;
-                points.push(at)?;
-                rest = more;
-            }
-            None => return Ok(rest),
-        }
+        let Some((word, more)) = split_at_byte(rest, b' ') else {
+            return Ok(rest);
+        };
+        let Some(at) = point(word) else {
+            return Ok(rest);
+        };
+        points.push(at)?;
+        rest = more;
     }
     Ok(rest)
 }
 
 /// Reads what a line of an arc or polygon with at least so many points has after its beginning and a space.
-pub(crate) fn shape_entry(
-    alloc: Global,
-    kind: Kind,
-    least: usize,
-    end: usize,
-    rest: &[u8],
-) -> Result<Entry, LineFault>
+fn shape_entry(alloc: Global, kind: Kind, least: usize, end: usize, rest: &[u8]) -> Answer
     requires shape { HasPoints kind }
     requires least { least ≡ least_points kind }
     requires end { end ≡ length (line_from kind rest.now) + 1 }
@@ -121,7 +83,7 @@ pub(crate) fn shape_entry(
 }
 
 /// Reads what a line of a kind without points has after its beginning and a space. `end` is the column after the line.
-fn plain_entry(kind: Kind, end: usize, rest: &[u8]) -> Result<Entry, LineFault>
+fn plain_entry(kind: Kind, end: usize, rest: &[u8]) -> Answer
     requires plain { HasPoints kind → ⊥ }
     requires chosen { IsChosen kind rest.now }
     requires end { end ≡ length (line_from kind rest.now) + 1 }
@@ -135,7 +97,7 @@ fn plain_entry(kind: Kind, end: usize, rest: &[u8]) -> Result<Entry, LineFault>
 }
 
 /// Reads what a line of this kind has after its beginning and a space.
-fn entry_after(alloc: Global, kind: Kind, end: usize, rest: &[u8]) -> Result<Entry, LineFault>
+fn entry_after(alloc: Global, kind: Kind, end: usize, rest: &[u8]) -> Answer
     requires chosen { IsChosen kind rest.now }
     requires end { end ≡ length (line_from kind rest.now) + 1 }
     ensures { TellsLine (line_from kind rest.now) result }
@@ -151,11 +113,7 @@ fn entry_after(alloc: Global, kind: Kind, end: usize, rest: &[u8]) -> Result<Ent
 fn entry_alone(bytes: &[u8]) -> Option<Entry>
     ensures { MatchOption result (IsNameAlone bytes.now → ⊥) (IsWrittenAlone bytes.now) }
 {
-    match bytes {
-        b"BELL" => Some(Entry::Bell),
-        b"END" => Some(Entry::DefEnd),
-        _ => None,
-    }
+    named!(bytes, Entry: b"BELL" => Bell, b"END" => DefEnd)
 }
 
 /// Returns the column of the fault of a line whose first word, before a space, is no kind's name.

@@ -1,7 +1,8 @@
-use Rattle.nap_reader.proofs.Common.{All-take, AllCharacters, Bool, CharSet, Code, Continues, DrawFault, Entry, Err, Ghosts, IsOperandByte, IsText, IsTextByte, Leads, LexerState, List, LongRun, Machine, NoCharacters, None, Ok, Opcode, OpenRun, Option, Outcome, Placed, ReadingState, Result, RuleResult, Some, State, [], after, after_drawing, ap, append-nil, arith, begun, between, carried_words, cond, drawn_front, drawn_text, drop, drop_of_length-le, false, get_or, get_or-take, is_operand_byte, length, length-append, length-take, length-take-le, nat_lt, nat_tests, outcome_by_front, outcome_from, placed_at, placed_from, prefix_len, prefix_len-le-length, prefix_len_passes, refl, refusal, rule, run_length, run_limit, suc, sym, take, take-take, take_all, true, zero, ℕ, ◌++◌, ◌+◌, ◌-◌, ◌<◌, ◌∙◌, ◌∷◌, ◌≡◌, ◌≤◌}
+use Rattle.nap_reader.proofs.Common.{All-take, AllCharacters, Bool, CharSet, Code, Continues, DrawFault, Entry, Err, Ghosts, IsOperandByte, IsText, IsTextByte, Leads, LexerState, List, LongRun, Machine, NoCharacters, None, Ok, Opcode, OpenRun, Option, Outcome, Placed, ReadingState, Result, RuleResult, Some, State, [], after, after_drawing, ap, append-nil, arith, begun, between, carried_words, cond, drawn_front, drawn_text, drop, drop_of_length-le, false, is_operand_byte, length, length-append, length-take, length-take-le, nat_lt, nat_tests, outcome_by_front, outcome_from, placed_at, placed_from, prefix_len, prefix_len-le-length, refl, refusal, rule, run_length, run_limit, suc, sym, take, take-take, take_all, true, zero, ℕ, ◌++◌, ◌+◌, ◌-◌, ◌<◌, ◌∙◌, ◌∷◌, ◌≡◌, ◌≤◌}
 use Rattle.nap_codes.specs.Front as codes
 use Rattle.nap_reader.specs.Course as course
 use Rattle.nap_reader.specs.Stream as model
+use Rattle.nap_reader.proofs.OperandLemmas.{prefix_all}
 use Rattle.nap_reader.proofs.Base.{as_list, bytes_of-placed, front_code, front_run, is_between, leads_entries, leads_more, list_more, outcome_from-front, pays, rest_of_nothing}
 use Rattle.nap_reader.proofs.ReadingLemmas.{is_half, is_open_run}
 use Rattle.nap_reader.proofs.PublicLaws.{all_operands}
@@ -16,10 +17,7 @@ after_first b rest = take_all (length (b ∷ rest) - 1) rest (omega arith)
 -- Operands after an opcode add no entries.
 
 operands_run : (n j : ℕ) (bs : List ℕ) → j ≤ prefix_len is_operand_byte bs → run_length (placed_from n (take j bs)) ≡ length (placed_from n (take j bs))
-operands_run n j bs few =
-    all_operands (placed_from n (take j bs)) (rw bytes_of-placed (λ i d less.
-    let within : i < j = omega (arith, less, length-take j bs) in
-    rw (get_or-take j bs i d within) (operand (get_or bs i d) (prefix_len_passes is_operand_byte bs i d (omega arith)))))
+operands_run n j bs few = all_operands (placed_from n (take j bs)) (rw bytes_of-placed (prefix_all IsOperandByte is_operand_byte bs j operand few))
   where
     operand : (b : ℕ) → is_operand_byte b ≡ true → IsOperandByte b
     operand b is = grind (arith, nat_tests)
@@ -73,8 +71,7 @@ module _ {S : Type 0} {g : Ghosts S} {s t : S} {h : ReadingState} (budget : ℕ)
 
 -- the operands after the first byte of a piece are within it
 pub counted_within : (piece : List ℕ) → 0 < length piece → prefix_len is_operand_byte (take (length piece - 1) (drop 1 piece)) < length piece
-counted_within piece some =
-    omega (arith, some, prefix_len-le-length is_operand_byte (take (length piece - 1) (drop 1 piece)), length-take (length piece - 1) (drop 1 piece))
+counted_within piece some = grind (arith, prefix_len-le-length, length-take)
 
 -- a byte below 40 is no operand
 pub no_operand : (b : ℕ) → b < 0x40 → is_operand_byte b ≡ false
@@ -89,8 +86,7 @@ length_text s set (b ∷ q) = ap suc (length_text (after s (typed_in s set b)) s
 
 -- no run is open if the bytes from 20 to 7F are characters
 pub closed_by_characters : (lexer : LexerState) (set : CharSet) (open_run : Option OpenRun) → NoCharacters lexer open_run → AllCharacters lexer.sets set → open_run ≡ None
-closed_by_characters lexer set None never chars = refl
-closed_by_characters lexer set (Some open_run) never chars = absurd (never set chars)
+closed_by_characters lexer set open_run h k = grind arith
 
 pub text_adds : {S : Type 0} {g : Ghosts S} {s t : S} {h : ReadingState} {set : CharSet} (budget : ℕ) (p piece q : List ℕ) → Continues g s (begun budget p) t h [] → IsText h set q → take (length q) piece ≡ q →
     (j : ℕ) → j ≤ length q → length (begun budget (p ++ take j piece)).entries ≡ length (begun budget p).entries + j

@@ -1,4 +1,4 @@
-use Rattle.nap_reader.proofs.Common.{ActsRun, Bool, Breaks, BreaksAt, BreaksAtByte, BreaksBetween, BreaksFrom, BreaksHere, BreaksInRun, BreaksWith, CanBreakAt, CanLackAt, Continues, DrawFault, Ends, EndsRun, Entry, Err, Executes, Ghosts, GrowsOpen, IsCharged, IsTaken, LacksOwn, Leads, List, Machine, None, Ok, OpenBody, OpenRun, Option, Outcome, Owes, Placed, ReadingState, Refusal, Result, RuleResult, RunAt, Some, StopsRun, TookPart, Unended, Unfinished, WantsMemory, Work, [], after_run, ap, append-nil, append_assoc, arith, at_byte, begun, cause_of, closed_by, cond, ended_by, false, half_read, in_run, inl, inr, is_operand_byte, length, length-append, means, memory, open_place, placed_at, placed_from, refl, refusal, rule, run_place, stream, subst, sym, true, unfinished_by, with_code, with_drawn, with_run, ℕ, ◌++◌, ◌<◌, ◌∙◌, ◌∷◌, ◌≡◌, ◌≢◌, ◌⊎◌}
+use Rattle.nap_reader.proofs.Common.{ActsRun, Begins, Bool, Breaks, BreaksAt, BreaksAtByte, BreaksBetween, BreaksFrom, BreaksHere, BreaksInRun, BreaksWith, CanBreakAt, CanLackAt, Continues, DrawFault, Ends, EndsRun, Entry, Err, Executes, Ghosts, GrowsOpen, IsCharged, IsTaken, LacksOwn, Leads, List, Machine, None, Ok, OpenBody, OpenRun, Option, Outcome, Owes, Placed, ReadingState, Refusal, Result, RuleResult, RunAt, Some, StopsRun, TookPart, Unended, Unfinished, WantsMemory, Work, [], after_run, ap, append-nil, append_assoc, arith, at_byte, begun, cause_of, closed_by, cond, ended_by, false, half_read, in_run, inl, inr, is_operand_byte, length, length-append, means, memory, nil_from_length, open_place, placed_at, placed_from, refl, refusal, rule, run_place, stream, subst, sym, true, unfinished_by, with_code, with_drawn, with_run, ℕ, ◌++◌, ◌<◌, ◌∙◌, ◌∷◌, ◌≡◌, ◌≢◌, ◌⊎◌}
 use Rattle.nap_reader.specs.Stream as model
 use Rattle.nap_reader.specs.declared.machine.Machine as struct
 use Rattle.nap_reader.proofs.ReadingLemmas.{Lawful, as_list, is_open_run, leads_entries, leads_left, leads_machine, leads_more, leads_paused, leads_taken, leads_unrefused, list_more, pays, refused_by, rule_part, run_past}
@@ -10,8 +10,7 @@ module _ {S : Type 0} {g : Ghosts S} {s : S} {o : Outcome} {t : S} {h : ReadingS
   pub unfinished_is : (body : Option OpenBody) (open_run : Option OpenRun) → h.open_body ≡ body → h.open_run ≡ open_run →
       o.unfinished ≡ Some (unfinished_by body open_run h.half h.run)
   unfinished_is body open_run opened is =
-      ap (λ (x : Outcome). x.unfinished) (leads_paused k)
-      ∙ ap (λ (b : Option OpenBody). Some (unfinished_by b h.open_run h.half h.run)) opened
+      ap (λ (x : Outcome). x.unfinished) (leads_paused k) ∙ ap (λ (b : Option OpenBody). Some (unfinished_by b h.open_run h.half h.run)) opened
       ∙ ap (λ (r : Option OpenRun). Some (unfinished_by body r h.half h.run)) is
 
   -- the place of an open run is that of the outcome
@@ -106,11 +105,9 @@ body_ended {g = g} {s = s} budget p {t} {body = body} fed k opened all =
     let live = leads_unrefused k in
     let still = run_still k (λ none. let bad : Some body ≡ None = sym opened ∙ none in cc) in
     let is : means budget p ≡ record o { refusal = Some (refusal Unended (length p)) } =
-    means_settled budget p live (ap (λ (x : Outcome). x.refusal) still ∙ live)
-    ∙ ap (λ (x : Outcome). with_code x (length p) x.unfinished) still
+    means_settled budget p live (ap (λ (x : Outcome). x.refusal) still ∙ live) ∙ ap (λ (x : Outcome). with_code x (length p) x.unfinished) still
     ∙ ap (with_code o (length p)) (unfinished_is k (Some body) _ opened refl) in
-    subst (λ (x : Outcome). IsTaken g s x t (Some (refusal Unended fed))) (sym is)
-    (ap (λ (n : ℕ). Some (refusal Unended n)) (sym all), leads_taken k)
+    subst (λ (x : Outcome). IsTaken g s x t (Some (refusal Unended fed))) (sym is) (ap (λ (n : ℕ). Some (refusal Unended n)) (sym all), leads_taken k)
 
 -- The opcode of the open run has acted at the end, and may request that all names are unbound.
 pub ends_run : {S : Type 0} {g : Ghosts S} {old new : struct.Machine S g} (clears : Bool) → Lawful g → Executes old new clears → EndsRun old new
@@ -118,31 +115,23 @@ ends_run true laws (works, closed, acted) h between s budget p k = acts_at_end b
 ends_run false laws (works, closed, acted) h between s budget p k = acts_at_end budget p k laws (acted h between)
 
 nothing_more : (xs ys : List Entry) → xs ++ ys ≡ xs → ys ≡ []
-nothing_more xs [] e = refl
-nothing_more xs (y ∷ ys) e = let same = ap length e in absurd (omega (arith, same, length-append xs (y ∷ ys)))
+nothing_more xs ys e = nil_from_length ys (omega (arith, ap length e, length-append xs ys))
 
--- the entries of an outcome are a prefix of those of another
-abbrev pub First : Outcome → Outcome → Type 0
-First o whole = (more : List Entry) × (whole.entries ≡ o.entries ++ more)
-
-pub same_first : (o : Outcome) → First o o
+pub same_first : (o : Outcome) → Begins o o
 same_first o = ([], sym (append-nil o.entries))
 
-pub run_first : (o : Outcome) (u : Option Unfinished) → First o (model.with_run_by o u)
-run_first o None = same_first o
-run_first o (Some model.nothing) = same_first o
-run_first o (Some (model.half_code bytes)) = same_first o
-run_first o (Some model.open_body) = same_first o
+pub run_first : (o : Outcome) (u : Option Unfinished) → Begins o (model.with_run_by o u)
 run_first o (Some (model.open_run op place run)) = drawn (rule o.machine.work op run)
   where
-    drawn : (by : Result RuleResult DrawFault) → First o (model.with_drawn o place by)
+    drawn : (by : Result RuleResult DrawFault) → Begins o (model.with_drawn o place by)
     drawn (Ok d) = (d.entries, refl)
     drawn (Err fault) = same_first o
+run_first o _ = same_first o
 
-pub closed_first : (o : Outcome) (b : ℕ) → First o (closed_by o b)
+pub closed_first : (o : Outcome) (b : ℕ) → Begins o (closed_by o b)
 closed_first o b = at (is_operand_byte b)
   where
-    at : (word : Bool) → First o (cond word o (with_run o))
+    at : (word : Bool) → Begins o (cond word o (with_run o))
     at true = same_first o
     at false = run_first o o.unfinished
 

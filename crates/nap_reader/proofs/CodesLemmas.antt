@@ -1,5 +1,5 @@
-use Rattle.nap_reader.proofs.Common.{All, All-head, AreCharacters, ArePending, Bool, Call, Calls, CharSet, Code, CodeFault, CodeSets, CodeTakes, Codes, Continues, Define, DrawFault, Entry, Fault, FaultMatchesDevice, FaultMatchesSink, Ghosts, HaltsAfter, IsLive, IsOpcodeByte, IsText, IsTextByte, Kind, LeadsOn, LexerState, List, Memory, NeverWants, None, Nothing, Ok, Opcode, OpenBody, OpenRun, Option, Outcome, Passes, Placed, ReadingState, Refuses, Request, RuleResult, RunAt, Sink, SinkFault, Some, Stop, Stops, StopsByte, Stray, Takes, TakesUnder, Work, [], after_charge, after_drawing, ap, append_assoc, arith, body_of, bytes_of, code_fault, code_front, code_rule, draw_fault, drawn_front, drawn_text, drop, false, fault_of, get_or, kind_of, length, length-append, length-drop, length-map, length-take-le, nil_from_length, one_byte_opcode, place_at, placed_at, placed_by_step, refl, refusal, rule_result, shown_front, sink_model_of, slice_get, state_after_request, stream_front, subst, sym, take, with_machine, ℕ, ◌*◌, ◌++◌, ◌+◌, ◌-◌, ◌<◌, ◌∙◌, ◌∷◌, ◌≡◌, ◌≢◌, ◌≤◌}
-use Rattle.nap_reader.proofs.Base.{Fails, IsAt, TookMore, WantsMore, acts_itself, as_it_was, binds_code, body_begins, by_itself, byte-placed_by_step, byte_refused, bytes_of-append, code_breaks, code_continues, code_ends, code_fault_own, code_over, fails_spare, first_byte, front_kind_made, is_between, leads_nowhere, leads_on, leads_past, leads_shown, leads_to_fault, leads_to_refusal, list_more, opcode_alone, opcode_of_kind, opens_drawn, pays, place_at-append, place_at-placed_by_step, run_opens, split_bytes, stops_now, stops_own}
+use Rattle.nap_reader.proofs.Common.{All, All-head, AreCharacters, ArePending, Bool, Call, Calls, CharSet, Code, CodeFault, CodeSets, CodeTakes, Codes, Continues, Define, DrawFault, Entry, Fault, FaultMatchesDevice, FaultMatchesSink, Ghosts, HaltsAfter, IsLive, IsOpcodeByte, IsText, IsTextByte, Kind, LeadsOn, LexerState, List, Memory, NeverWants, None, Nothing, Ok, Opcode, OpenBody, OpenRun, Option, Outcome, Passes, Placed, ReadingState, Refuses, Request, RuleResult, RunAt, SinkFault, Some, Stop, Stops, StopsByte, Stray, Takes, TakesUnder, Work, [], after_charge, after_drawing, ap, append_assoc, arith, body_of, bytes_of, code_fault, code_front, code_rule, draw_fault, drawn_front, drawn_text, drop, false, fault_of, get_or, kind_of, length, length-append, length-drop, length-map, nil_from_length, one_byte_opcode, place_at, placed_at, placed_by_step, refl, refusal, rule_result, shown_front, sink_model_of, state_after_request, stream_front, subst, sym, take, take_rest, with_machine, ℕ, ◌*◌, ◌++◌, ◌+◌, ◌-◌, ◌<◌, ◌∙◌, ◌∷◌, ◌≡◌, ◌≢◌, ◌≤◌}
+use Rattle.nap_reader.proofs.Base.{Fails, IsAt, TookMore, WantsMore, acts_itself, as_it_was, binds_code, body_begins, by_itself, byte-placed_by_step, byte_refused, bytes_of-append, code_breaks, code_continues, code_ends, code_fault_own, code_over, front_kind_made, is_between, leads_on, leads_shown, leads_to_fault, leads_to_refusal, list_more, opcode_alone, opcode_of_kind, opens_drawn, pays, place_at-append, place_at-placed_by_step, run_opens, split_bytes, stops_now, stops_own}
 use Rattle.nap_codes.specs.Front as codes
 use Rattle.nap_reader.specs.Stream as model
 use Rattle.nap_reader.proofs.TakingLemmas.{Drew, LeftBy, leads_after, left_is, next_in_slice, one_takes, own_spares, place_at-drop, stop_takes, works_on, works_still}
@@ -33,8 +33,8 @@ run_opened {x = x} {op = op} k next sink same =
 
 -- A code draws by a rule, and makes this request.
 pub data IsRuled (c : Code) : Request → Type 0 where
-  acts : (acting : Code) → kind_of c ≡ Kind.Acts acting → IsRuled c Nothing
-  binds : (name : ℕ) (show : Bool) → kind_of c ≡ Kind.Binds name show → IsRuled c (Define name show)
+  acts : (acting : Code) → kind_of c ≡ Kind.acts acting → IsRuled c Nothing
+  binds : (name : ℕ) (show : Bool) → kind_of c ≡ Kind.binds name show → IsRuled c (Define name show)
 
 -- the result of a code's rule: these entries and this work
 abbrev pub drawn_by : List Entry → Work → RuleResult
@@ -96,7 +96,7 @@ module _ {S : Type 0} (g : Ghosts S) (t : S) {h : ReadingState} {x : Placed} {c 
   }
 
   -- A code calls a macro.
-  pub code_calls : {t₀ v : S} {h₀ retained : ReadingState} {all : List Placed} {index name : ℕ} (following : List Placed) → drop index all ≡ x ∷ following → LeadsOn g t₀ h₀ t h (take index all) (bytes_of (drop index all)) → kind_of c ≡ Kind.Calls name →
+  pub code_calls : {t₀ v : S} {h₀ retained : ReadingState} {all : List Placed} {index name : ℕ} (following : List Placed) → drop index all ≡ x ∷ following → LeadsOn g t₀ h₀ t h (take index all) (bytes_of (drop index all)) → kind_of c ≡ Kind.calls name →
       v ≡ t → retained ≡ drawn_at h after h.machine.work → Calls g t₀ h₀ v retained all index name
   code_calls following is leads kind sink same = rw (sink, same) record {
     byte = x;
@@ -152,8 +152,7 @@ half_takes {x = x} {zs = zs} unfinished left same live =
 pub fault_takes : {S : Type 0} {g : Ghosts S} {old new : Machine S g} {x : Placed} {zs : List Placed} {ended : Bool} (fault : CodeFault) → codes.front old.lexer.sets (old.lexer.half ++ x.byte ∷ []) ≡ codes.refused fault (length old.lexer.half) →
     old.open_run ≡ None → new.refusal ≡ Some (refusal (code_fault fault) x.place) → new.sink ≡ old.sink → Takes old new (x ∷ zs) ended 0 Stop
 fault_takes {g = g} {old = old} {x = x} {zs = zs} fault refused closed is same =
-    stop_takes is same (omega arith) (grind arith) (λ spared. own_spares (code_fault_own fault))
-    (λ h following between over. stops_now refl
+    stop_takes is same (omega arith) (grind arith) (λ spared. own_spares (code_fault_own fault)) (λ h following between over. stops_now refl
     (stops_own g old.sink (with_machine h old) x old.sink (refusal (code_fault fault) x.place) (code_fault_own fault) (λ s o pending c. byte_refused between closed c fault _ refused refl)))
 
 -- the lexer after a code
@@ -167,41 +166,14 @@ Lexes old byte c after = EndsCode old.lexer.sets old.lexer.half old.open_run byt
 pub lexes_alone : {sets : CodeSets} {half : List ℕ} {open_run : Option OpenRun} {byte : ℕ} {c : Code} {after : CodeSets} → open_run ≡ None → half ≡ [] → codes.front sets (byte ∷ []) ≡ codes.complete c 1 after → EndsCode sets half open_run byte c after
 lexes_alone closed none front = record { closed = closed; whole = rw none front }
 
-module _ {S : Type 0} {g : Ghosts S} {old : Machine S g} {x : Placed} {c : Code} {after : CodeSets} (k : EndsCode old.lexer.sets old.lexer.half old.open_run x.byte c after) where
-  -- A machine consumes a code that adds nothing.
-  pub nothing_takes : {new : Machine S g} {zs : List Placed} {ended : Bool} → kind_of c ≡ Kind.AddsNothing → LeftBy old new old.work (rested after) → new.sink ≡ old.sink → IsLive new → Takes old new (x ∷ zs) ended 1 Nothing
-  nothing_takes {zs = zs} kind left same live =
-      one_takes (works_still left.kept same live) (λ h following between.
-      leads_by (bytes_of (zs ++ following)) same (left_is left h) (omega arith) refl (λ n all before. before)
-      (λ s o pending c'. leads_past c' [] (drawn_at (with_machine h old) after old.work) pending (over g old.sink between k c' old.work) (ends g old.sink between k kind c')))
-
-  -- A machine consumes a call of a macro.
-  pub macro_takes : {new : Machine S g} {zs : List Placed} {ended : Bool} {name : ℕ} → kind_of c ≡ Kind.Calls name → LeftBy old new old.work (rested after) → new.sink ≡ old.sink → IsLive new → Takes old new (x ∷ zs) ended 1 (Call name)
-  macro_takes {zs = zs} kind left same live =
-      one_takes (works_still left.kept same live)
-      (λ h following between. (0, refl, code_calls g old.sink between k (zs ++ following) refl (leads_nowhere (bytes_of (x ∷ (zs ++ following))) refl refl) kind same (left_is left h)))
-
-  -- A machine consumes a code that draws.
-  pub ruled_takes : {new : Machine S g} {zs : List Placed} {ended : Bool} {request : Request} {entries : List Entry} → IsRuled c request → Drew g (code_rule old.work c) old.sink (drawn_by entries new.work) new.sink → LeftBy old new new.work (rested after) → IsLive new → TookMore g → WantsMore g → Takes old new (x ∷ zs) ended 1 request
-  ruled_takes {zs = zs} (acts acting kind) drew left live more wants =
-      one_takes (works_on _ left.kept wants drew.took drew.clear live) (λ h following between. ruled_leads g old.sink between k (acts acting kind) (left_is left h) drew more (bytes_of (zs ++ following)))
-  ruled_takes {zs = zs} (binds name show kind) drew left live more wants =
-      one_takes (works_on _ left.kept wants drew.took drew.clear live) (λ h following between. (rw kind at (front_kind_made old.lexer.sets (old.lexer.half ++ x.byte ∷ []) c _ after k.whole), ruled_leads g old.sink between k (binds name show kind) (left_is left h) drew more (bytes_of (zs ++ following))))
-
-  -- A machine refuses a code by its rule, or breaks at it.
-  pub ruled_stops : {new : Machine S g} {zs : List Placed} {ended : Bool} {request : Request} {u : S} {fault : DrawFault} → IsRuled c request → Fails g (code_rule old.work c) old.sink u fault → FaultMatchesSink g old.sink u (draw_fault fault) → new.refusal ≡ Some (refusal (draw_fault fault) x.place) → new.sink ≡ u →
-      Takes old new (x ∷ zs) ended 0 Stop
-  ruled_stops {fault = fault} ruled fails reported is same = stop_takes is same (omega arith) reported (λ spared. fails_spare fault fails spared.1) (λ h following between over. stops_now refl (ruled_breaks g old.sink between k ruled fails))
-
-  -- A code is an operand outside a run.
-  pub strays_takes : {new : Machine S g} {zs : List Placed} {ended : Bool} → kind_of c ≡ Kind.Strays → new.refusal ≡ Some (refusal Stray x.place) → new.sink ≡ old.sink → Takes old new (x ∷ zs) ended 0 Stop
-  strays_takes {zs = zs} kind is same =
-      stop_takes is same (omega arith) (grind arith) (λ spared. own_spares refl)
-      (λ h following between over. stops_now refl
-      (stops_own g old.sink (with_machine h old) x old.sink (refusal Stray x.place) refl (λ s o pending c'. leads_to_refusal c' _ (ends g old.sink between k kind c'))))
+-- A code is an operand outside a run.
+pub strays_takes : {S : Type 0} {g : Ghosts S} {old new : Machine S g} {x : Placed} {zs : List Placed} {c : Code} {after : CodeSets} {ended : Bool} → Lexes old x.byte c after → kind_of c ≡ Kind.strays → new.refusal ≡ Some (refusal Stray x.place) → new.sink ≡ old.sink → Takes old new (x ∷ zs) ended 0 Stop
+strays_takes {g = g} {old = old} {x = x} k kind is same =
+    stop_takes is same (omega arith) (grind arith) (λ spared. own_spares refl) (λ h following between over. stops_now refl
+    (stops_own g old.sink (with_machine h old) x old.sink (refusal Stray x.place) refl (λ s o pending c'. leads_to_refusal c' _ (ends g old.sink between k kind c'))))
 
 -- An opcode was read: no code was incomplete before it, and the lexer is unchanged.
-pub opcode_read : {sets : CodeSets} {half : List ℕ} {open_run : Option OpenRun} {byte : ℕ} {c : Code} {after : CodeSets} (k : EndsCode sets half open_run byte c after) {op : Opcode} → kind_of c ≡ Kind.Opens op →
+pub opcode_read : {sets : CodeSets} {half : List ℕ} {open_run : Option OpenRun} {byte : ℕ} {c : Code} {after : CodeSets} (k : EndsCode sets half open_run byte c after) {op : Opcode} → kind_of c ≡ Kind.opens op →
     (rested after ≡ record { sets = sets; half = half }) × IsOpcodeByte [] after byte op
 opcode_read {sets} {half} {byte = byte} {c = c} {after = after} k {op} kind =
     let front = rw (opcode_of_kind c op kind) at k.whole in
@@ -212,49 +184,22 @@ opcode_read {sets} {half} {byte = byte} {c = c} {after = after} k {op} kind =
       record { rested = refl; drawn = opens_drawn after (byte ∷ []) (Code.Op op) 1 after op names refl; alone = opcode_alone after byte op names; names = names },
     )
 
--- Complete codes at the beginning of bytes.
-
-some_first : (bytes : List ℕ) (b : ℕ) → slice_get bytes 0 ≡ Some b → 0 < length bytes
-some_first bytes b first = omega (arith, ap length (first_byte bytes b first).1)
-
--- The first byte is a code.
-module _ {S : Type 0} {g : Ghosts S} {old : Machine S g} {c : Code} {after : CodeSets} {bytes : List ℕ} {b : ℕ} (first : slice_get bytes 0 ≡ Some b) (k : EndsCode old.lexer.sets old.lexer.half old.open_run b c after) where
-  -- A code adds nothing.
-  pub alone_nothing : {new : Machine S g} {ended : Bool} → LeftBy old new old.work (rested after) → new.sink ≡ old.sink → kind_of c ≡ Kind.AddsNothing → IsLive new → Codes old new bytes ended (CodeOutcome.Acted 1)
-  alone_nothing left same kind live = record { within = (omega arith, some_first bytes b first); closed = left.closed ∙ sym k.closed; by = λ x ys is. let here : b ≡ x.byte = cc in nothing_takes (rw here at k) kind left same live }
-
-  -- A code of one byte acts.
-  pub alone_acts : {new : Machine S g} {ended : Bool} → LeftBy old new new.work (rested after) → kind_of c ≡ Kind.Acts c → {entries : List Entry} → Drew g (code_rule old.work c) old.sink (drawn_by entries new.work) new.sink → IsLive new → TookMore g → WantsMore g → Codes old new bytes ended (CodeOutcome.Acted 1)
-  alone_acts left kind drew live more wants = record { within = (omega arith, some_first bytes b first); closed = left.closed ∙ sym k.closed; by = λ x ys is. let here : b ≡ x.byte = cc in ruled_takes (rw here at k) (acts c kind) drew left live more wants }
-
-  -- A code of one byte is refused, or breaks.
-  pub alone_stops : {new : Machine S g} {ended : Bool} {fault : DrawFault} → new.open_run ≡ old.open_run → kind_of c ≡ Kind.Acts c → Fails g (code_rule old.work c) old.sink new.sink fault → FaultMatchesSink g old.sink new.sink (draw_fault fault) → Codes old new bytes ended (CodeOutcome.Stopped 0 (draw_fault fault) 0)
-  alone_stops closed kind fails reported = record {
-    within = (omega arith, some_first bytes b first);
-    closed = closed;
-    by = λ x ys is kept refuses. let here : b ≡ x.byte = cc in ruled_stops (rw here at k) {request = Nothing} (acts c kind) fails reported refuses.is refuses.sink;
-  }
-
 -- The machine takes the code at the front of the rest of a slice.
 
--- the bytes of a slice from one on
-abbrev rest_of : List ℕ → ℕ → List ℕ
-rest_of bytes at = take (length bytes - at) (drop at bytes)
-
-pub length-rest_of : (bytes : List ℕ) (at : ℕ) → length (rest_of bytes at) ≡ length bytes - at
-length-rest_of bytes at = length-take-le (length bytes - at) (drop at bytes) (omega (arith, length-drop at bytes))
+pub length-rest_of : (bytes : List ℕ) (at : ℕ) → length (take (length bytes - at) (drop at bytes)) ≡ length bytes - at
+length-rest_of bytes at = ap length (take_rest bytes at) ∙ length-drop at bytes
 
 abbrev placed_rest : ℕ → ℕ → List ℕ → ℕ → List Placed
 placed_rest place step bytes at = placed_at (get_or bytes at 0) (place + step * at) ∷ placed_by_step (place + step * (at + 1)) step (drop (at + 1) bytes)
 
-pub codes_from : {S : Type 0} {g : Ghosts S} {old new : Machine S g} {ended : Bool} {outcome : CodeOutcome} (place step : ℕ) (bytes : List ℕ) (at : ℕ) → at < length bytes → Codes old new (rest_of bytes at) ended outcome → CodeTakes old new (placed_rest place step bytes at) ended outcome
+pub codes_from : {S : Type 0} {g : Ghosts S} {old new : Machine S g} {ended : Bool} {outcome : CodeOutcome} (place step : ℕ) (bytes : List ℕ) (at : ℕ) → at < length bytes → Codes old new (drop at bytes) ended outcome → CodeTakes old new (placed_rest place step bytes at) ended outcome
 codes_from place step bytes at less codes = let here = rw (next_in_slice place step bytes at less) at codes in here.by (placed_at (get_or bytes at 0) (place + step * at)) (placed_by_step (place + step * (at + 1)) step (drop (at + 1) bytes)) refl
 
 -- It keeps the refusal, with the place of the byte.
-pub stopped_from : {S : Type 0} {g : Ghosts S} {old new kept : Machine S g} {ended : Bool} {more index : ℕ} {fault : Fault} (place step : ℕ) (bytes : List ℕ) (at : ℕ) → at < length bytes → Codes old new (rest_of bytes at) ended (CodeOutcome.Stopped more fault index) → Refuses new kept (refusal fault (place + step * (at + index))) →
+pub stopped_from : {S : Type 0} {g : Ghosts S} {old new kept : Machine S g} {ended : Bool} {more index : ℕ} {fault : Fault} (place step : ℕ) (bytes : List ℕ) (at : ℕ) → at < length bytes → Codes old new (drop at bytes) ended (CodeOutcome.Stopped more fault index) → Refuses new kept (refusal fault (place + step * (at + index))) →
     Takes old kept (placed_rest place step bytes at) ended more Stop
 stopped_from {new = new} {kept = kept} {index = index} {fault = fault} place step bytes at less codes refuses =
-    let within : at + index < length bytes = omega (arith, codes.within.1, less, length-rest_of bytes at) in
+    let within : at + index < length bytes = omega (arith, codes.within.1, less, length-drop at bytes) in
     let placed : place_at (placed_rest place step bytes at) index ≡ place + step * (at + index) = ap (λ (xs : List Placed). place_at xs index) (sym (byte-placed_by_step place step bytes at less)) ∙ place_at-drop (placed_by_step place step bytes) at index ∙ place_at-placed_by_step place step bytes (at + index) within in
     codes_from place step bytes at less codes kept (subst (λ (n : ℕ). Refuses new kept (refusal fault n)) (sym placed) refuses)
 
@@ -264,8 +209,7 @@ tells_sink fault tells = grind arith
 
 -- memory isn't lacking for a sink that never wants any
 halts_spare : {S : Type 0} (g : Ghosts S) (s t : S) (list : List Entry) (n : ℕ) (fault : SinkFault) → HaltsAfter (sink_model_of g) list s t n fault → NeverWants g s → draw_fault (fault_of fault) ≢ Memory
-halts_spare g s t list n SinkFault.Memory halts never is = never _ halts.wants
-halts_spare g s t list n SinkFault.Write halts never is = let bad : Sink ≡ Memory = is in cc
+halts_spare g s t list n fault h k e = grind arith
 
 -- The first bytes are characters, and the format effectors among them.
 pub record IsTextOf {S : Type 0} {g : Ghosts S} (old : Machine S g) (set : CharSet) (bytes chars : List ℕ) : Type 0 where

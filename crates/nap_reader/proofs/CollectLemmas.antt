@@ -47,8 +47,7 @@ module _ {S : Type 0} (g : Ghosts S) (s : S) (budget : ℕ) (t : S) (r : Refusal
 
       at : (cause : Cause) → cause_of r.fault ≡ cause → EndsEarly g s budget p t r cause
       at stream is = own is
-      at memory is = broke (λ own. let bad = sym is ∙ own in cc)
-      at device is = broke (λ own. let bad = sym is ∙ own in cc)
+      at _ is = broke (λ own. let bad = sym is ∙ own in cc)
 
 -- what a caller sees who doesn't see the sink
 pub refused_early : {S : Type 0} (g : Ghosts S) (s : S) (budget : ℕ) (p : List ℕ) (t : S) (r : Refusal) → EndsEarly g s budget p t r (cause_of r.fault) → RefusedBy g s budget p r (cause_of r.fault)
@@ -56,9 +55,7 @@ refused_early g s budget p t r early = search (rules, arith) depth 9
 
 -- the reading of an accepted page broke
 pub broke_off : {S : Type 0} {g : Ghosts S} {s t : S} {budget : ℕ} {p : List ℕ} {r : Refusal} (cause : Cause) → (means budget p).refusal ≡ None → EndsEarly g s budget p t r cause → BreaksOff g s budget p t r
-broke_off {r = r} stream accepted early = let bad : None ≡ Some r = sym accepted ∙ early in cc
-broke_off memory accepted broke = broke
-broke_off device accepted broke = broke
+broke_off cause h k = grind arith
 
 -- The only piece of a stream was refused, or broke.
 pub piece_ends : {S : Type 0} {g : Ghosts S} {old new : Reader S g} {piece : List ℕ} {r : Refusal} {s : S} {budget : ℕ} → budget_of old ≡ budget → (r.fault ≡ Fault.Sink → g.failed (sink_of new) ≡ true) → HasRead old s [] →

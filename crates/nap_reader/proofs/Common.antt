@@ -1,21 +1,20 @@
 -- Passes on the names that proofs cite. Declares nothing.
 pub use Rattle.nap_codes.proofs.PublicLaws.{code_is_spelled, code_length, code_ranges, code_stays, code_taken, earlier_unfinished, format_effector_front, one_byte_opcode, refused_index, refused_stays}
 unfoldable pub use Rattle.nap_codes.specs.CodeSets.{after_control0}
-pub use Rattle.nap_reader.specs.Names.{Acts, AllInRange, BatchFault, CodeSet, Consumes, DefinitionsAgree, FaultMatchesDevice, GivesSome, IfSome, InRange, IsCodeInRange, IsCutOff, IsMade, IsNextOf, IsOperandByte, IsReadWhole, IsTrue, IsWord, Legal, NoneFailed, OpenDefinition, Put, PutSome, Reading, SinkModel, Spells, State, StateInRange, StatesAgree, Step, Steps, WantsBy, WantsFor, after, and_self, batch_entries, bit_and, bit_at, clears_macros, code_as, complete, entry_of_shape, front, hand_of, is_fill, mask_rows, next_of, next_of_code, prefix_len, reading, reads_limit, rule_result, set_rows, sets_after, slice_get, slice_index, start, start_sets, text_code, text_entry, trailing_zeros, unwrap_or, vec_capacity, vec_len, ⊤, ◌/◌}
+pub use Rattle.nap_reader.specs.Names.{Acts, AllInRange, BatchFault, Cause, CharSet, Code, CodeFault, CodeSet, CodeSets, Consumes, DefinitionsAgree, DrawFault, DrawsBy, Entry, FaultMatchesDevice, Ghosts, GivesSome, HaltsAfter, IfSome, InRange, IsCodeInRange, IsCutOff, IsDrawn, IsGraphic, IsMade, IsNextOf, IsOpcode, IsOperandByte, IsReadWhole, IsTextByte, IsTrue, IsWord, Legal, LexerState, NoneFailed, Opcode, OpenDefinition, Put, PutSome, Reading, RuleResult, SinkFault, SinkModel, Spells, State, StateInRange, StatesAgree, Step, Steps, StepsBy, TextStep, WantsBy, WantsFor, Work, after, and_self, batch_entries, bit_and, bit_at, clears_macros, code_as, code_rule, complete, device, entry_of_shape, fault_of, format_effector, front, hand_of, is_fill, mask_rows, memory, next_of, next_of_code, operand_words, prefix_len, reading, reads_limit, rule, rule_result, run_limit, set_at, set_rows, sets_after, sink_model_of, slice_get, slice_index, start, start_sets, stream, text_code, text_entry, trailing_zeros, unwrap_or, vec_capacity, vec_len, ⊤, ◌/◌}
 unfoldable pub use Rattle.nap_codes.specs.Tables.{control1_rows, opcode_rows}
 pub use Rattle.nap_codes.specs.declared.code_set.CodeSet.TheVariants.{Macros}
 pub use Rattle.nap_draw.proofs.PublicLaws.{code_fits, code_values_are_in_range, drawn_values_are_in_range, opcodes_are_drawn, rule_fits, typed_rule}
 unfoldable pub use Rattle.nap_draw.specs.Codes.{drawn_text}
 pub use Rattle.nap_list.proofs.PublicLaws.{fits_join, start_agrees, walks_join}
 unfoldable pub use Rattle.nap_list.specs.State.{AllFit}
-pub use Rattle.nap_reader.specs.Below.{Cause, CharSet, Code, CodeFault, CodeSets, DrawFault, DrawsBy, Entry, Ghosts, HaltsAfter, IsDrawn, IsGraphic, IsOpcode, IsTextByte, LexerState, Opcode, RuleResult, SinkFault, StepsBy, TextStep, Work, code_rule, device, fault_of, format_effector, memory, operand_words, rule, run_limit, set_at, sink_model_of, stream}
-unfoldable pub use Rattle.nap_reader.specs.Below.{control0_rows, row_of, walk}
-pub use Rattle.nap_reader.specs.Breaking.{AddsEntries, PlacedWith, PlacedWithin}
+unfoldable pub use Rattle.nap_reader.specs.Names.{control0_rows, row_of, walk}
+pub use Rattle.nap_reader.specs.Breaking.{AddsEntries, Begins, PlacedWith, PlacedWithin}
 pub use Rattle.nap_reader.specs.Carried.{AllCharacters, HasName, NoCharacters}
 pub use Rattle.nap_reader.specs.Collecting.{Collects, CountsAll, IsCollected, IsCount, IsDrained, LacksMemoryFor, RefusedBy}
 pub use Rattle.nap_reader.specs.Counting.{CountedSink, GrowsBy, TookCounted, counting}
 pub use Rattle.nap_reader.specs.Feeding.{EndsBy, FailsBy, Feeds, StopsInLast}
-pub use Rattle.nap_reader.specs.Kinds.{kind_of}
+pub use Rattle.nap_reader.specs.Kinds.{Kind, kind_of}
 pub use Rattle.nap_reader.specs.Laws.{AcceptedIsLegal, BegunComesFirst, BreaksAmong, CodeActs, EndBreaksAmong, FedBreaksAmong, FrontAfterFront, IsAlone, IsRun, MoreBytesKeepEntries, MoreBytesKeepRefusal, PiecesAgree, ReadValuesAreInRange, RunActs, RunWaits, WantsSome, in_pieces, joined}
 pub use Rattle.nap_reader.specs.NextBytes.{AfterEscape, CanAdvance, CanPass, CannotShow, HasReadOn, IsNextByte, IsNextText, Moves, Position, Reads, StoresBody, bytes_from, next_bytes, past, position_of}
 pub use Rattle.nap_reader.specs.Pieces.{AmidCall, Goes, HasMemory, LacksFrom, LeadsTo, Overcharges, Reaches, ReadsFurther, ReadsTo, StopsFrom, TakesSlice}
@@ -30,7 +29,6 @@ pub use Rattle.nap_reader.specs.Twice.{BreaksOff, EndsEarly}
 pub use Rattle.nap_reader.specs.declared.feeding.FeedFault.{FeedFault}
 pub use Rattle.nap_reader.specs.declared.feeding.ReadFault.{ReadFault}
 pub use Rattle.nap_reader.specs.declared.frames.Frame.{Frame}
-pub use Rattle.nap_reader.specs.declared.machine.codes.Kind.{Kind}
 pub use Rattle.nap_reader.specs.declared.machine.Request.TheVariants.{Call, Clear, Define, Nothing, Stop}
 pub use Rattle.nap_reader.specs.declared.machine.Request.{Request}
 pub use Rattle.nap_reader.specs.declared.machine.codes.CodeOutcome.{CodeOutcome}
@@ -51,6 +49,6 @@ pub use Rattle.std.proofs.lemmas.List.Sums.{prefix_len-drop_yes, prefix_len-le-l
 pub use Rattle.std.proofs.lemmas.List.{drop-append-le, drop-drop, drop-map, drop-take, drop_all, drop_at, drop_more, get_or-append-add, get_or-drop, get_or-map, get_or-take, get_or_append_left, length-drop, length-map, length-take-le, map-append, map-set, nil_from_length, same_from_push, take-append-drop, take-append-le, take-map, take-take, take_all, take_at, take_more, take_rest}
 pub use Rattle.std.proofs.lemmas.Nat.Bits.{bit_at-pow_other, bit_at-pow_same, bit_at-trailing_zeros, bit_at-zero, bit_at_above, bit_at_cat_high, bit_at_cat_low, same_from_bits_below}
 pub use Rattle.std.proofs.lemmas.Nat.{and_block, and_mask, div-add-mod', mod_below, pow_pos}
-pub use Rattle.std.proofs.lemmas.Result.{MatchResult-weaker, err_from_is_err_and, on_ok_weaker}
+pub use Rattle.std.proofs.lemmas.Result.{IfErr-weaker, MatchResult-weaker, err_from_is_err_and, on_ok_weaker}
 pub use Rattle.std.proofs.lemmas.Simd.{bit_mask_l, chunk-drop, leading_from_mask_l, length-chunk, mask_l-lt, mask_l-mod, trailing_mask_l}
 pub use lib.Count.{count_trailing_zeros}

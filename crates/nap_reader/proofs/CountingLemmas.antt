@@ -1,4 +1,4 @@
-use Rattle.nap_reader.proofs.Common.{BatchFault, Cause, CountedSink, Entry, Err, FaultMatchesDevice, Ghosts, GrowsBy, HaltsAfter, List, Ok, Option, Put, PutSome, Refusal, RefusedBy, Result, SinkFault, TookPrefix, [], add-zero, ap, arith, counting, device, inl, inr, length, length-append, means, memory, refl, sink_model_of, stream, ℕ, ◌∙◌, ◌∷◌, ◌≡◌}
+use Rattle.nap_reader.proofs.Common.{BatchFault, Cause, CountedSink, Entry, Err, FaultMatchesDevice, Ghosts, GrowsBy, HaltsAfter, List, Ok, Option, Put, PutSome, Refusal, RefusedBy, Result, SinkFault, [], add-zero, ap, arith, counting, inl, inr, length, length-append, sink_model_of, ℕ, ◌∙◌, ◌∷◌, ◌≡◌}
 
 -- A sink that counts the entries of another sink.
 
@@ -28,24 +28,13 @@ module _ {S : Type 0} (g : Ghosts S) (list : List Entry) (s t : CountedSink S) w
 -- An entry that another sink didn't take isn't counted.
 pub puts_none : {S : Type 0} (g : Ghosts S) (x : Entry) (s : CountedSink S) (t : S) (f : SinkFault) → PutSome {A = Unit {0}} (sink_model_of g) (x ∷ []) s.sink t (Err f) →
     PutSome {A = Unit {0}} (sink_model_of (counting g)) (x ∷ []) s (made t s.count) (Err f)
-puts_none g x s t f (n, h, said) = (
-  n,
-  halts g (x ∷ []) s (made t s.count) n f (record { grows = λ m is. rw (none f h, add-zero) is }) (λ zero. refl) h,
-  tells g (x ∷ []) s (made t s.count) n f (λ zero. refl) said,
-)
+puts_none g x s t f (n, h, said) = grind (arith, halts, none, add-zero, tells)
   where
     none : (f : SinkFault) → HaltsAfter (sink_model_of g) (x ∷ []) s.sink t n f → n ≡ 0
     none SinkFault.Memory h = omega (arith, h.count, ap length h.parts, length-append h.prefix (h.next ∷ h.rest))
     none SinkFault.Write (inl (set, same, zero)) = zero
     none SinkFault.Write (inr h) = omega (arith, h.count, ap length h.parts, length-append h.prefix (h.next ∷ h.rest))
 
--- what a counting sink took, the other sink took
-same_prefix : {S : Type 0} (g : Ghosts S) (s t : CountedSink S) (more : List Entry) → TookPrefix (counting g) s [] more t device → TookPrefix g s.sink [] more t.sink device
-same_prefix g s t more (inl part) = let (failed, taken) = part in let (first, rest, is, took) = taken in inl (failed, (first, rest, is, took.took))
-same_prefix g s t more (inr broke) = inr broke
-
 -- the refusal of a page that was read into a counting sink is the page's
 pub refused_alike : {S : Type 0} (g : Ghosts S) (s : CountedSink S) (budget : ℕ) (p : List ℕ) (r : Refusal) (cause : Cause) → RefusedBy (counting g) s budget p r cause → RefusedBy g s.sink budget p r cause
-refused_alike g s budget p r stream h = h
-refused_alike g s budget p r memory h = h
-refused_alike g s budget p r device refused = let (within, there) = refused in let (t, failed, part) = there in (within, (t.sink, failed, same_prefix g s t (means budget p).entries part))
+refused_alike g s budget p r cause h = grind arith

@@ -1,5 +1,5 @@
-use Rattle.nap_reader.proofs.Common.{AfterEscape, All, All-map, ArePending, Bool, Breaks, BreaksHere, CanAdvance, CanPass, CannotShow, Continues, Entry, Fault, Ghosts, Goes, Input, IsLive, IsNextByte, IsNextText, IsSome, LacksFrom, LacksOwn, LeadsOn, LeadsThrough, List, Memory, Moves, None, OpenBody, Option, Outcome, Passes, Placed, Reaches, Reader, ReadingState, Reads, ReadsTo, Refusal, RunAt, Some, Steps, Stops, StopsByte, Store, StoreState, StoresBody, Works, [], after_body, after_charge, all_at, ap, append-nil, arith, at_byte, body_front, bytes_of, cause_of, drop, drop-append-le, ends_body, false, get_or, get_or-take, inl, inr, is_of_body, kept_list, length, length-append, length-drop, length-map, length-take-le, lt-ltb, memory, nat_tests, ne_eqb, next_bytes, past, pending_escape, place_at, placed_at, placed_by_step, position_of, prefix_len, prefix_len-drop_yes, prefix_len-le-length, prefix_len_passes, reading_state_by, refl, refusal, shown_front, store_bound, store_grown, store_limit, store_shown, stream, stream_front, subst, sym, take, take-append-le, take-map, true, ℕ, ◌*◌, ◌++◌, ◌+◌, ◌-◌, ◌<◌, ◌∙◌, ◌∷◌, ◌≡◌, ◌≢◌, ◌≤◌, ◌⊎◌}
-use Rattle.nap_reader.proofs.Base.{AreAdded, IsPlain, as_it_was, body_bound, body_grows, body_over, body_refused, body_shows, breaks_here, by_itself, byte-placed_by_step, bytes_of-placed_by_step, can_few, can_less, can_next, cannot_stops, conveys_nothing, escape_steps, lacks, leads_shown, length-all_at, length-placed_by_step, no_some, pending_body, plain_added, plain_full, space_for, state_with_body, stops_own}
+use Rattle.nap_reader.proofs.Common.{AfterEscape, All, All-map, ArePending, Bool, Breaks, BreaksHere, CanAdvance, CanPass, CannotShow, Continues, Entry, Fault, Ghosts, Goes, Input, IsLive, IsNextByte, IsNextText, IsSome, LacksFrom, LacksOwn, LeadsOn, LeadsThrough, List, Memory, Moves, None, OpenBody, Option, Outcome, Passes, Placed, Reaches, Reader, ReadingState, Reads, ReadsTo, Refusal, RunAt, Some, Steps, Stops, StopsByte, Store, StoreState, StoresBody, Works, [], after_body, after_charge, all_at, ap, append-nil, arith, at_byte, body_front, bytes_of, cause_of, drop, drop-append-le, ends_body, false, get_or, inl, inr, is_of_body, kept_list, length, length-append, length-drop, length-map, length-take-le, lt-ltb, memory, nat_tests, ne_eqb, next_bytes, past, pending_escape, place_at, placed_at, placed_by_step, position_of, prefix_len, prefix_len-drop_yes, prefix_len-le-length, prefix_len_passes, reading_state_by, refl, refusal, shown_front, store_bound, store_grown, store_limit, store_shown, stream, stream_front, subst, sym, take, take-append-le, take-map, true, ℕ, ◌*◌, ◌++◌, ◌+◌, ◌-◌, ◌<◌, ◌∙◌, ◌∷◌, ◌≡◌, ◌≢◌, ◌≤◌, ◌⊎◌}
+use Rattle.nap_reader.proofs.Base.{AreAdded, IsPlain, as_it_was, body_bound, body_grows, body_over, body_refused, body_shows, breaks_here, by_itself, byte-placed_by_step, bytes_of-placed_by_step, can_few, can_less, can_next, cannot_stops, conveys_nothing, escape_steps, lacks, leads_shown, length-all_at, length-placed_by_step, no_some, pending_body, plain_added, plain_full, prefix_all, space_for, state_with_body, stops_own}
 use Rattle.nap_codes.specs.declared.code.Step.TheVariants.{More}
 use Rattle.nap_reader.specs.declared.machine.Machine.{Machine}
 use Rattle.nap_reader.specs.Bodies as bodies
@@ -23,7 +23,7 @@ plain_slice {input} {piece} {text} {first} {step} next n few =
     let is : bytes_of (take n (next_bytes input piece)) ≡ take n text =
     ap (λ (xs : List Placed). bytes_of (take n xs)) next.is ∙ ap bytes_of (take-append-le n slice next.more (omega (arith, within, length-placed_by_step first step text)))
     ∙ sym (take-map (λ (x : Placed). x.byte) n slice) ∙ ap (take n) (bytes_of-placed_by_step first step text) in (
-      subst (All IsPlain) (sym is) (λ k d less. rw (get_or-take n text k d (omega (arith, less, size))) (plain_is (get_or text k d) (prefix_len_passes is_of_body text k d (omega (arith, less, size, few))))),
+      subst (All IsPlain) (sym is) (prefix_all IsPlain is_of_body text n plain_is few),
       sym (length-map (take n (next_bytes input piece)) _) ∙ ap length is ∙ size,
     )
 
@@ -43,8 +43,7 @@ module _ {S : Type 0} {g : Ghosts S} {t : S} {h : ReadingState} {b : OpenBody} (
   pub body_stops : {x : Placed} {fault : Fault} {place : ℕ} (i : ℕ) → cause_of fault ≡ stream →
       ((more : List Placed) → (body_front (space_for h) (bytes_of (pending_escape b.escape) ++ x.byte ∷ bytes_of more) ≡ bodies.refused fault i) × (place_at (pending_escape b.escape ++ x ∷ more) i ≡ place)) → StopsByte g t [] h x t (refusal fault place)
   body_stops {x} {fault} {place} i own refuses =
-      stops_own g t h x t (refusal fault place) own
-      (λ s o pending k. rw (← (refuses pending).1) (body_refused opened k fault i (refuses pending).0))
+      stops_own g t h x t (refusal fault place) own (λ s o pending k. rw (← (refuses pending).1) (body_refused opened k fault i (refuses pending).0))
 
   -- memory is lacking for the next byte
   pub body_lacks : {x : Placed} {added : List Placed} {escape : Option ℕ} → AreAdded (space_for h) b.escape (x ∷ []) added escape → StopsByte g t [] h x t (refusal Memory x.place)
@@ -166,8 +165,7 @@ module _ {S : Type 0} {g : Ghosts S} (m : Machine S g) {input : Input} {piece : 
       let holds : m.lexer.half ≡ [] → reading_state_by m' after ≡ bound =
       λ rested. retained ∙ state_is (record h { machine = after_body h.machine b.name h.body; open_body = None; body = [] }) m' m.work (record { sets = m.lexer.sets; half = 27 ∷ [] }) None work (escape_steps m.lexer More m'.lexer rested (steps rested)) closed_run in
       goes_by moved next.reads (omega arith) works
-      (subst (λ (t : S). LeadsOn g m.sink h t (reading_state_by m' after) [] (bytes_of (next_bytes input piece))) (sym sink)
-      (record {
+      (subst (λ (t : S). LeadsOn g m.sink h t (reading_state_by m' after) [] (bytes_of (next_bytes input piece))) (sym sink) (record {
         conveys = conveys_nothing g m.sink h;
         acted = record {
           passes = λ x bs is s o pending. bound_past hidden holds (ends x bs is);

@@ -1,9 +1,9 @@
-use Rattle.nap_reader.proofs.Common.{All-map, ArePending, Bool, Budget, Calls, CanAdvance, CanPass, CannotShow, Continues, Err, Exceeds, Fault, FaultMatchesSink, Frame, Ghosts, Goes, HasMemory, HasRead, HasReadOn, Input, IsLive, IsNextByte, IsNextText, IsSome, LacksFrom, Latches, LeadsOn, List, Memory, Moves, None, Ok, OnOk, OpenBody, Option, Overcharges, Passes, Placed, Position, Progresses, Promise, Reaches, Reader, ReadingState, Reads, ReadsFurther, ReadsTo, Refusal, Request, Result, Sink, Some, Stop, Stops, StopsByte, StopsFrom, StoreState, StoresBody, TakesBy, TakesSlice, TakesUnder, Works, [], after_charge, all_at, ap, append-nil, append_assoc, ap₂, arith, begun, body_of, budget_of, bytes_of, drop, drop-drop, false, false≢true, inl, inr, is_some, length, length-append, length-drop, machine_of, mode_of, next_bytes, nil_from_length, past, place_at, placed_at, placed_by_step, position_of, reading_state, reading_state_by, refl, refusal, shown_front, sink_of, state_after_request, store_grown, store_limit, stream_front, subst, sym, take, take_all, true, unread, unread_of, ℕ, ◌*◌, ◌++◌, ◌+◌, ◌-◌, ◌<◌, ◌^◌, ◌∙◌, ◌∷◌, ◌≡◌, ◌≢◌, ◌≤◌, ◌⊎◌}
-use Rattle.nap_reader.proofs.Base.{Lawful, as_it_was, can_few, can_less, can_next, cannot_stops, drop_next, frames-unread, has_read_by, holds_nothing, is_between, is_half, lacks, leads_shown, length-all_at, length-next, length-placed_by_step, place_at-append, place_at-placed_by_step, stops_now, unread-store_grown}
+use Rattle.nap_reader.proofs.Common.{All-map, ArePending, Bool, Budget, Calls, CanAdvance, CanPass, CannotShow, Continues, Err, Exceeds, Fault, FaultMatchesSink, Ghosts, Goes, HasMemory, HasRead, HasReadOn, Input, IsLive, IsNextByte, IsNextText, IsSome, LacksFrom, Latches, LeadsOn, List, Memory, Moves, None, OnOk, OpenBody, Option, Overcharges, Passes, Placed, Position, Progresses, Promise, Reaches, Reader, ReadingState, Reads, ReadsFurther, ReadsTo, Refusal, Request, Result, Sink, Some, Stop, Stops, StopsByte, StopsFrom, StoreState, StoresBody, TakesBy, TakesSlice, TakesUnder, Works, [], after_charge, all_at, ap, append-nil, append_assoc, ap₂, arith, begun, body_of, budget_of, bytes_of, drop, drop-drop, false≢true, inl, inr, length, length-append, length-drop, machine_of, mode_of, next_bytes, nil_from_length, past, place_at, placed_at, placed_by_step, position_of, reading_state, reading_state_by, refl, refusal, shown_front, sink_of, state_after_request, store_grown, store_limit, stream_front, subst, sym, take, take_all, unread, unread_of, ℕ, ◌*◌, ◌++◌, ◌+◌, ◌-◌, ◌<◌, ◌^◌, ◌∙◌, ◌∷◌, ◌≡◌, ◌≢◌, ◌≤◌, ◌⊎◌}
+use Rattle.nap_reader.proofs.Base.{Lawful, as_it_was, can_few, can_less, can_next, cannot_stops, drop_next, frames-unread, has_read_by, lacks, leads_shown, length-all_at, length-next, length-placed_by_step, place_at-append, place_at-placed_by_step, stops_now, unread-store_grown}
 use Rattle.nap_reader.specs.declared.machine.Machine.{Machine}
 use Rattle.nap_reader.proofs.PieceLemmas.{reaches_called, reaches_left, reaches_on}
 use Rattle.nap_reader.proofs.StopLemmas.{stops_reached}
-use Rattle.nap_reader.proofs.TakingLemmas.{own_tells, place_at-drop, stops_after, works_then}
+use Rattle.nap_reader.proofs.TakingLemmas.{own_tells, place_at-drop, stops_after}
 
 -- How a reader advances in a piece, and where it stops.
 
@@ -23,61 +23,19 @@ is_open (Some a) = 1
 
 -- Fewer bytes may still be read; or as many, and what was open has ended.
 pub smaller : {A : Type 0} {old new : Option A} {input input' : Input} {piece : List ℕ} {n : ℕ} → Reads input piece → HasReadOn input input' piece n → (0 < n) ⊎ ((new ≡ None) × (old ≢ None)) → 2 * to_come input' piece + is_open new < 2 * to_come input piece + is_open old
-smaller {A} {old} {new} {input} {input'} {piece} {n} reads counts which = by which
-  where
-    less : to_come input' piece + n ≤ to_come input piece
-    less = omega (arith, reads.within, counts.reads.within, counts.budget, counts.fed, counts.turns, input'.turned, input'.within)
-
-    one : (o : Option A) → is_open o ≤ 1
-    one None = omega arith
-    one (Some a) = omega arith
-
-    some : (o : Option A) → o ≢ None → is_open o ≡ 1
-    some None other = absurd (other refl)
-    some (Some a) other = refl
-
-    by : (0 < n) ⊎ ((new ≡ None) × (old ≢ None)) → 2 * to_come input' piece + is_open new < 2 * to_come input piece + is_open old
-    by (inl more) = omega (arith, less, more, one new)
-    by (inr (none, opened)) = omega (arith, less, ap is_open none, some old opened)
+smaller {A} {old} {new} {input} {input'} {piece} {n} reads counts which = grind arith
 
 -- What an input does, one thing after another.
 
 pub moves_then : {old mid new : Input} {n m : ℕ} {came : List Placed} {first_store then_store store : StoreState} {before after opened : Option OpenBody} (k : ℕ) → k ≡ n + m → Moves old mid n [] first_store before → Moves mid new m came then_store after → then_store ≡ store → after ≡ opened → Moves old new k came store opened
-moves_then {old} {n = n} {m = m} {came = came} k all first then same_store same_body = record {
-  rest = then.rest ∙ ap (λ (xs : List Placed). came ++ drop m xs) first.rest ∙ ap (λ (xs : List Placed). came ++ xs) (drop-drop m n (unread_of old) ∙ ap (λ (i : ℕ). drop i (unread_of old)) (sym all));
-  at = omega (arith, all, first.at, then.at, ap (λ (xs : List Placed). length xs) first.rest, length-drop n (unread_of old));
-  fed = omega (arith, all, first.fed, then.fed, ap (λ (xs : List Placed). length xs) first.rest, length-drop n (unread_of old));
-  turns = omega (arith, all, first.turns, then.turns);
-  budget = then.budget ∙ first.budget;
-  charged = omega (arith, first.charged, then.charged);
-  promise = then.promise ∙ first.promise;
-  store_is = then.store_is ∙ same_store;
-  body = then.body ∙ same_body;
-}
+moves_then {old} {n = n} {m = m} {came = came} k all first then same_store same_body = grind (arith, drop-drop, length-drop)
 
 -- no byte was passed
 pub stores_moves : {old new : Input} {store : StoreState} {opened : Option OpenBody} → StoresBody old new store opened → unread store.bytes old.frames.stack.items ≡ unread_of old → Moves old new 0 [] store opened
-stores_moves sets kept = record {
-  rest = ap₂ (λ (t : StoreState) (frames : List Frame). unread t.bytes frames) sets.store_is sets.frames ∙ kept;
-  at = omega (arith, sets.at);
-  fed = omega (arith, sets.fed);
-  turns = omega (arith, sets.turns);
-  budget = sets.budget;
-  charged = omega (arith, sets.charged);
-  promise = sets.promise;
-  store_is = sets.store_is;
-  body = sets.body;
-}
+stores_moves sets kept = grind arith
 
 pub stores_can : {old new : Input} {piece : List ℕ} {n : ℕ} {store : StoreState} {opened : Option OpenBody} → StoresBody old new store opened → CanPass old piece n → CanPass new piece n
-stores_can sets can =
-    let reads = can.reads in
-    let few = reads.few in
-    record {
-      reads = record { within = omega (arith, reads.within, sets.at); small = reads.small; few = omega (arith, few, sets.at, sets.fed) };
-      of_piece = λ none. let all = can.of_piece (sym sets.frames ∙ none) in omega (arith, all, sets.at);
-      of_body = λ before frame is. can.of_body before frame (sym sets.frames ∙ is);
-    }
+stores_can sets can = grind arith
 
 pub grown_moves : {old new : Input} (more : List ℕ) {opened : Option OpenBody} → StoresBody old new (store_grown old.store more) opened → Moves old new 0 [] (store_grown old.store more) opened
 grown_moves {old} more sets = stores_moves sets (unread-store_grown old.store.bytes more old.frames.stack.items old.framed)
@@ -90,18 +48,11 @@ module _ {old new : Input} {n : ℕ} {came : List Placed} {store : StoreState} {
   counts_moved {piece} reads few =
       let small = reads.few in
       let within : new.at ≤ length piece = omega (arith, few, reads.within, length-next (position_of old) piece, moved.at) in
-      record {
-        reads = record { within = within; small = reads.small; few = omega (arith, small, within, moved.at, moved.fed) };
-        budget = moved.budget;
-        promise = moved.promise;
-        fed = omega (arith, moved.at, moved.fed);
-        turns = omega (arith, moved.turns);
-      }
+      grind arith
 
   -- the next bytes then
   pub next_moved : (piece : List ℕ) → next_bytes new piece ≡ came ++ drop n (next_bytes old piece)
-  next_moved piece =
-      rw (moved.rest, moved.at, moved.fed) (append_assoc came (drop n (unread_of old)) _ ∙ ap (λ (xs : List Placed). came ++ xs) (sym (drop_next (unread_of old) old.fed old.at n piece)))
+  next_moved piece = grind (arith, append_assoc, drop_next)
 
   -- the reading state then
   pub state_moved : {S : Type 0} {g : Ghosts S} (m : Machine S g) {left : ℕ} → new.budget - new.charged ≡ left →
@@ -121,11 +72,7 @@ past_twice p n came =
 
 pub reads_at : {S : Type 0} {g : Ghosts S} {old : Reader S g} {m m' : Machine S g} {input input' : Input} {piece : List ℕ} {n : ℕ} {came : List Placed} {store : StoreState} {opened : Option OpenBody} → ReadsTo old piece m input → Moves input input' n came store opened → n ≤ length (next_bytes input piece) → Works m m' →
     Reaches old piece (past (position_of input) n came) m'.sink (reading_state_by m' input') → ReadsTo old piece m' input'
-reads_at by moved few works reaches = record {
-  counts = counts_then 0 (omega arith) by.counts (counts_moved moved by.counts.reads few);
-  works = works_then by.works works;
-  reaches = rw (moved.rest, moved.at, moved.fed) reaches;
-}
+reads_at by moved few works reaches = grind arith
 
 -- Some or none of the next bytes were consumed, and the reading state leads on.
 pub goes_by : {S : Type 0} {g : Ghosts S} {m m' : Machine S g} {input input' : Input} {piece : List ℕ} {n : ℕ} {store : StoreState} {opened : Option OpenBody} → Moves input input' n [] store opened → Reads input piece → n ≤ length (next_bytes input piece) → Works m m' →
@@ -194,10 +141,7 @@ own_is is short = let bad : Budget ≡ Memory = sym is ∙ short in cc
 
 -- the fault of a body that can't be presented isn't the sink's
 pub own_fault : {mid after : Input} {bytes : List ℕ} {fault : Fault} → CannotShow mid after bytes fault → fault ≢ Sink
-own_fault {fault = fault} cannot is = elim cannot.reason [
-  | inl few ↦ let bad : Budget ≡ Sink = sym few.0 ∙ is in cc
-  | inr lacks ↦ let bad : Memory ≡ Sink = sym lacks.0 ∙ is in cc
-]
+own_fault {fault = fault} cannot is = grind arith
 
 -- All of the piece was consumed.
 pub takes_piece : {S : Type 0} {g : Ghosts S} (old new : Reader S g) (piece : List ℕ) → ReadsTo old piece new.machine new.input → next_bytes new.input piece ≡ [] → (s : S) (p : List ℕ) → HasRead old s p → HasRead new s (p ++ piece)
@@ -242,8 +186,7 @@ comes_rested input piece empty =
 
 -- the property of a result, if no refusal is kept
 pub unrefused : {A E P : Type 0} (r : Result A E) (refusal : Option Refusal) → OnOk r P → ((e : E) → r ≡ Err e → IsSome refusal) → refusal ≡ None → P
-unrefused (Ok a) refusal ok refused none = ok
-unrefused (Err e) refusal ok refused none = let bad : true ≡ false = sym (refused e refl) ∙ ap is_some none in cc
+unrefused r refusal h k e = grind arith
 
 -- One iteration of the loop.
 
@@ -292,15 +235,11 @@ module _ {S : Type 0} {g : Ghosts S} {from now : Machine S g} {input : Input} {p
 
 -- a body comes next, once other bytes were passed
 pub call_moved : {old mid new : Input} {n : ℕ} (name place : ℕ) → Moves old mid n [] old.store old.body → Moves mid new 0 (all_at place (body_of mid.store.names name)) mid.store mid.body → Moves old new n (all_at place (body_of old.store.names name)) old.store old.body
-call_moved {old} {mid} {new} {n} name place adv shows =
-    subst (λ (store : StoreState). Moves old new n (all_at place (body_of store.names name)) old.store old.body) adv.store_is (moves_then n (omega arith) adv shows adv.store_is adv.body)
+call_moved {old} {mid} {new} {n} name place adv shows = grind arith
 
 -- nothing is pending, whatever the budget left
 still_pending : (h : ReadingState) (n : ℕ) → h.open_body ≡ None → h.open_run ≡ None → ArePending [] h → ArePending [] (record h { machine = record h.machine { left = n } })
-still_pending h n between closed retained =
-    let half = is_between h [] between retained in
-    let rest = is_half h [] between closed retained in
-    holds_nothing (record h { machine = record h.machine { left = n } }) between half.mode half.body closed (sym rest.0)
+still_pending h n between closed retained = grind arith
 
 module _ {S : Type 0} {g : Ghosts S} {from now : Machine S g} {input : Input} {piece : List ℕ} {count place : ℕ} {request : Request} (turn : TakesSlice from now input piece count request place)
     {index name : ℕ} (counted : count ≡ index + 1) (calls : Calls g from.sink (reading_state_by from input) now.sink (reading_state_by now input) (next_bytes input piece) index name) where
@@ -399,6 +338,4 @@ turn_is {piece = piece} {text = text} {first = first} {step = step} {place = pla
 
 -- some bytes were consumed, or the open run is over
 pub turn_less : {S : Type 0} {g : Ghosts S} (from now new : Machine S g) {count : ℕ} {request : Request} → Progresses from now count request → request ≢ Stop → (now.open_run ≡ None → new.open_run ≡ None) → (0 < count) ⊎ ((new.open_run ≡ None) × (from.open_run ≢ None))
-turn_less from now new (inl more) other run = inl more
-turn_less from now new (inr (inl stop)) other run = absurd (other stop)
-turn_less from now new (inr (inr (none, opened))) other run = inr (run none, opened)
+turn_less from now new h k e = grind arith

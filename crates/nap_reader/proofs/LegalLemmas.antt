@@ -1,5 +1,5 @@
-use Rattle.nap_reader.proofs.Common.{AcceptedIsLegal, AddsEntries, All-append, All-nil, AllFit, AllInRange, BegunComesFirst, BreaksAmong, BreaksAt, BreaksBetween, BreaksFrom, BreaksWith, CanLackAt, Cause, DefinitionsAgree, DrawFault, EndBreaksAmong, Entry, Err, FedBreaksAmong, Ghosts, IfSome, InRange, IsBroken, LacksWithin, Legal, List, None, Ok, OpenDefinition, Option, Outcome, PlacedWith, PlacedWithin, ReadValuesAreInRange, Refusal, Result, RuleResult, Some, StateInRange, StatesAgree, StopsBy, Unfinished, WantsMemory, WantsSome, Work, [], ap, append-nil, append_assoc, arith, begun, cause_of, code_fits, code_values_are_in_range, device, drawn_values_are_in_range, drop, ended_by, fits_join, get_or, get_or-append_seam, inl, inr, length, length-append, means, memory, open_run, placed_from, refl, rule, rule_fits, start, start_agrees, start_machine, stream, sym, take, take-append_seam, walk, walks_join, with_drawn, with_end, with_run, with_run_by, ℕ, ◌++◌, ◌+◌, ◌∙◌, ◌∷◌, ◌≡◌, ◌≢◌, ◌⊎◌}
-use Rattle.nap_reader.proofs.Base.{First, IsOfWords, Puts, breaks_longer, breaks_more, breaks_there, by_code, by_rule, closed_first, lacks_there, more_bytes_keep_entries, puts_nothing, run_first, same_first, taken_all, took_prefix}
+use Rattle.nap_reader.proofs.Common.{AcceptedIsLegal, All-append, All-nil, AllFit, AllInRange, Begins, BegunComesFirst, BreaksAmong, BreaksAt, BreaksBetween, BreaksFrom, BreaksWith, CanLackAt, Cause, DefinitionsAgree, DrawFault, EndBreaksAmong, Entry, Err, FedBreaksAmong, Ghosts, IfSome, InRange, IsBroken, LacksWithin, Legal, List, None, Ok, OpenDefinition, Option, Outcome, PlacedWith, PlacedWithin, ReadValuesAreInRange, Refusal, Result, RuleResult, Some, StateInRange, StatesAgree, StopsBy, Unfinished, WantsMemory, WantsSome, Work, [], ap, append-nil, append_assoc, arith, begun, cause_of, code_fits, code_values_are_in_range, drawn_values_are_in_range, drop, ended_by, fits_join, get_or, get_or-append_seam, inl, inr, length, length-append, means, open_run, placed_from, refl, rule, rule_fits, start, start_agrees, start_machine, stream, sym, take, take-append_seam, walk, walks_join, with_drawn, with_end, with_run, with_run_by, ℕ, ◌++◌, ◌+◌, ◌∙◌, ◌∷◌, ◌≡◌, ◌≢◌, ◌⊎◌}
+use Rattle.nap_reader.proofs.Base.{IsOfWords, Puts, breaks_longer, breaks_more, breaks_there, by_code, by_rule, closed_first, lacks_there, more_bytes_keep_entries, puts_nothing, run_first, same_first, taken_all, took_prefix}
 use Rattle.nap_reader.proofs.StreamLemmas.{outcome_holds}
 
 -- The end of a stream keeps the entries before it. It is accepted only where nothing was refused before and no definition
@@ -8,7 +8,7 @@ use Rattle.nap_reader.proofs.StreamLemmas.{outcome_holds}
 end_keeps : (o : Outcome) (n : ℕ) (r : Option Refusal) → ((with_end o n r).entries ≡ o.entries) × (o.refusal ≡ r → (with_end o n r).refusal ≡ None → o.machine.work.state.definition ≡ None)
 end_keeps o n r = grind arith
 
-ended_first : (o : Outcome) (n : ℕ) (r : Option Refusal) → First o (ended_by o n r)
+ended_first : (o : Outcome) (n : ℕ) (r : Option Refusal) → Begins o (ended_by o n r)
 ended_first o n (Some r) = same_first o
 ended_first o n None =
     let k = run_first o o.unfinished in
@@ -39,13 +39,9 @@ placed_within Can budget p b rest place h =
 
 pub broken_among : {S : Type 0} {g : Ghosts S} {s t : S} {left : ℕ} {r : Refusal} (budget : ℕ) (p : List ℕ) (b : ℕ) (rest : List ℕ) → IsBroken g s budget p b t left r →
     BreaksAmong g s budget ((p ++ b ∷ []) ++ rest) (begun budget p).entries (begun budget ((p ++ b ∷ []) ++ rest)) t r
-broken_among {g = g} {s} {t} {left} {r} budget p b rest h = record {
-  place = placed_within AddsEntries budget p b rest r.place (breaks_there g s budget p b t r h.breaks);
-  wants = λ is. lacking (lacks_there g s budget p b t r h.breaks is);
-  from = breaks_more all.0 all.1 (at_byte g s budget p b t r h.breaks);
-}
+broken_among {g = g} {s} {t} {left} {r} budget p b rest h = search (arith, placed_within, breaks_there, lacking, lacks_there, breaks_more, all, at_byte) steps 100000
   where
-    all : First (begun budget (p ++ b ∷ [])) (begun budget ((p ++ b ∷ []) ++ rest))
+    all : Begins (begun budget (p ++ b ∷ [])) (begun budget ((p ++ b ∷ []) ++ rest))
     all = more_bytes_keep_entries budget (p ++ b ∷ []) rest
 
     lacking : CanLackAt budget p b r.place ⊎ g.wants s (begun budget (p ++ b ∷ [])).entries → LacksWithin budget ((p ++ b ∷ []) ++ rest) r.place ⊎ WantsSome g s (begun budget ((p ++ b ∷ []) ++ rest)).entries
@@ -63,8 +59,7 @@ fed_breaks_among {S} g s budget before last i t left r within = at (cause_of r.f
 
     at : (cause : Cause) → cause ≢ stream → StopsBy g s budget (before ++ take i last) (get_or last i 0) t left r cause → BreaksAmong g s budget (before ++ last) (begun budget before).entries (begun budget (before ++ last)) t r
     at stream own h = absurd (own refl)
-    at memory own h = among h
-    at device own h = among h
+    at _ own h = among h
 
 pub end_breaks_among : {S : Type 0} (g : Ghosts S) → EndBreaksAmong g
 end_breaks_among g s budget p t r live h =

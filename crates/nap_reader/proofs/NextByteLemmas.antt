@@ -1,11 +1,9 @@
-use Rattle.nap_reader.proofs.Common.{All, All-append, All-cons, All-head, All-nil, All-pop, All-replicate, All-tail, Bool, CanAdvance, CanPass, Err, Exceeds, Frame, FramesIn, Innermost, Input, IsBefore, IsFrame, IsNextByte, IsNextText, IsOver, IsStore, List, None, Ok, OnErr, OnOk, Placed, Position, Promise, Reads, Result, Some, Span, StoreState, [], add-zero, all_at, ap, append-nil, append_assoc, ap₂, arith, begun, bytes_from, bytes_of, drop, drop-append-le, drop-append_seam, drop-drop, drop-map, drop-take, drop_all, drop_more, drop_of_length-le, false, frame_bytes, get_or, if◌then◌else◌, inl, inr, length, length-append, length-drop, length-map, length-take, ltb, ltb-false, ltb-true, map, map-set, next_bytes, nil_from_length, no_names, place_at, placed_at, placed_by_step, placed_from, position_of, promised, refl, replicate, same_from_push, set, slice_get, store_bound, store_grown, store_limit, store_shown, sublist, sublist_at, subst, suc, sym, take, take-append-le, take-append_seam, take-map, take-take, take_rest, true, unread, unread_of, vec_capacity, zero, ℕ, ◌*◌, ◌++◌, ◌+◌, ◌-◌, ◌<◌, ◌∙◌, ◌∷◌, ◌≡◌, ◌≢◌, ◌≤◌}
+use Rattle.nap_reader.proofs.Common.{All, All-append, All-cons, All-head, All-nil, All-pop, All-replicate, All-tail, Bool, CanAdvance, CanPass, Exceeds, Frame, FramesIn, Innermost, Input, IsBefore, IsFrame, IsNextByte, IsNextText, IsOver, IsStore, List, None, OnErr, OnOk, Placed, Position, Promise, Reads, Result, Some, Span, StoreState, [], add-zero, all_at, ap, append-nil, append_assoc, ap₂, arith, begun, bytes_from, bytes_of, drop, drop-append-le, drop-append_seam, drop-drop, drop-map, drop-take, drop_all, drop_more, drop_of_length-le, false, frame_bytes, get_or, if◌then◌else◌, length, length-append, length-drop, length-map, length-take, map, map-set, next_bytes, nil_from_length, no_names, place_at, placed_at, placed_by_step, placed_from, position_of, promised, refl, replicate, same_from_push, set, slice_get, store_bound, store_grown, store_limit, store_shown, sublist, sublist_at, subst, suc, sym, take, take-append-le, take-append_seam, take-map, take-take, take_rest, true, unread, unread_of, vec_capacity, zero, ℕ, ◌*◌, ◌++◌, ◌+◌, ◌-◌, ◌<◌, ◌∙◌, ◌∷◌, ◌≡◌, ◌≢◌, ◌≤◌}
 use Rattle.nap_reader.proofs.StreamLemmas.{bytes_of-all_at, bytes_of-append, bytes_of-placed, length-all_at}
 
 -- a part of a list is unchanged by more bytes at the end of the list
 pub sublist-store_grown : (bytes more : List ℕ) (start end : ℕ) → start ≤ end → end ≤ length bytes → sublist (bytes ++ more) start end ≡ sublist bytes start end
-sublist-store_grown bytes more start end h within =
-    ap (take (end - start)) (drop-append-le start bytes more (omega arith))
-    ∙ take-append-le (end - start) (drop start bytes) more (omega (arith, length-drop start bytes))
+sublist-store_grown bytes more start end h within = grind (arith, drop-append-le, take-append-le, length-drop)
 
 pub bodies-store_grown : (bytes more : List ℕ) (n : ℕ) (spans : List Span) → n ≤ length bytes → All (IsBefore n) spans →
     map (sublist_at (bytes ++ more)) spans ≡ map (sublist_at bytes) spans
@@ -28,53 +26,25 @@ none_bound {from = from} begun few kept = (record { bound = All-replicate (IsBef
 -- what is known of a store is known still, whether bytes were appended or not
 pub still_known : {bytes : List ℕ} {spans : List Span} {from stored : ℕ} {promise : Promise} {space space' : ℕ} {bound : Bool} {old : StoreState} (more : List ℕ) {new : List ℕ} → IsStore bytes spans from stored promise space × (bound ≡ false → map (sublist_at bytes) spans ≡ no_names) →
     state_of bytes spans from stored promise ≡ old → old.stored + length old.body + length more ≤ store_limit → space ≤ space' → (ok : Bool) → new ≡ (if ok then bytes ++ more else bytes) → IsStore new spans from stored promise space' × (bound ≡ false → map (sublist_at new) spans ≡ no_names)
-still_known {bytes} {spans} {from} more (old, none) view few wide true is =
-    let size = ap (λ (t : StoreState). t.stored + length t.body) view in
-    let long = ap length is ∙ length-append bytes more in (
-      record { bound = old.bound; all = old.all; begun = omega (arith, old.begun, long); few = omega (arith, old.begun, few, size, long, length-drop from bytes); kept = omega (arith, old.kept, wide) },
-      λ unbound. rw is (bodies-store_grown bytes more from spans old.begun old.bound ∙ none unbound),
-    )
-still_known more (old, none) view few wide false is = rw is (record { bound = old.bound; all = old.all; begun = old.begun; few = old.few; kept = omega (arith, old.kept, wide) }, none)
+still_known more h k e is ok so = grind (arith, length-append, length-drop, bodies-store_grown)
 
 pub grown_by : (more : List ℕ) {bytes new : List ℕ} {spans : List Span} {from stored : ℕ} {promise : Promise} {space : ℕ} {old : StoreState} → IsStore bytes spans from stored promise space → state_of bytes spans from stored promise ≡ old → new ≡ bytes ++ more → state_of new spans from stored promise ≡ store_grown old more
-grown_by more {bytes} {spans = spans} {from} store view is =
-    rw (is, ← view, bodies-store_grown bytes more from spans store.begun store.bound, drop-append-le from bytes more store.begun) refl
+grown_by more {bytes} {spans = spans} {from} store view is = grind (arith, bodies-store_grown, drop-append-le)
 
 pub bound : (bytes : List ℕ) (spans : List Span) (from stored : ℕ) (promise : Promise) (name end : ℕ) → from ≤ length bytes → end ≡ length bytes →
     state_of bytes (set spans (name - 32) (record { start = from; end = end })) end (stored + (end - from)) promise
     ≡ store_bound (state_of bytes spans from stored promise) name
-bound bytes spans from stored promise name end h all =
-    rw (all, map-set (sublist_at bytes) spans (name - 32) (record { start = from; end = length bytes }), take_rest bytes from, drop_of_length-le bytes {i = length bytes} (omega arith), length-drop) refl
+bound bytes spans from stored promise name end h all = grind (arith, map-set, take_rest, drop_of_length-le, length-drop)
 
 pub bound_grown : (bytes : List ℕ) (spans : List Span) (from stored : ℕ) (promise : Promise) (name ender end : ℕ) → All (IsBefore from) spans → from ≤ length bytes → end ≡ length bytes →
     state_of (bytes ++ 0x1B ∷ ender ∷ []) (set spans (name - 32) (record { start = from; end = end })) (length (bytes ++ 0x1B ∷ ender ∷ [])) (stored + (end - from)) promise
     ≡ store_shown (state_of bytes spans from stored promise) name ender
-bound_grown bytes spans from stored promise name ender end all h same =
-    let more : List ℕ = 0x1B ∷ ender ∷ [] in
-    let store_grown = bodies-store_grown bytes more from spans h all in
-    let body = sublist-store_grown bytes more from (length bytes) h (omega arith) ∙ take_rest bytes from in
-    rw (
-      same,
-      map-set (sublist_at (bytes ++ more)) spans (name - 32) (record { start = from; end = length bytes }),
-      store_grown,
-      body,
-      drop_of_length-le (bytes ++ more) {i = length (bytes ++ more)} (omega arith),
-      length-drop,
-    ) refl
-
--- a store that is too small for a promise and these bytes
-pub exceeds_by : (promise : Promise) (stored charged : ℕ) → promised promise < stored + charged → Exceeds promise stored charged
-exceeds_by promise stored charged more = by (ltb promise.stored stored) refl
-  where
-    by : (less : Bool) → ltb promise.stored stored ≡ less → Exceeds promise stored charged
-    by true is = inl (ltb-true promise.stored stored is)
-    by false is = inr (omega (arith, ltb-false promise.stored stored is, more))
+bound_grown bytes spans from stored promise name ender end all h same = grind (arith, bodies-store_grown, sublist-store_grown, take_rest, map-set, drop_of_length-le, length-drop)
 
 -- the store had no memory for some bytes more
 pub exceeds_in : {E : Type 0} (input : Input) (n : ℕ) (r : Result (Unit {0}) E) → OnErr r (promised input.store.promise < length input.store.bytes + n) →
     OnErr r (Exceeds input.store.promise (input.store.stored + length input.store.body + n) input.charged)
-exceeds_in input n (Ok done) full = full
-exceeds_in input n (Err e) full = exceeds_by input.store.promise (input.store.stored + length input.store.body + n) input.charged (omega (arith, full, input.paired))
+exceeds_in input n r h = grind arith
 
 -- one more body is read
 pub unread-push : (bytes : List ℕ) (frames : List Frame) (frame : Frame) →
@@ -93,12 +63,7 @@ drop-sublist bytes next end count less =
 -- the innermost body has given this number of bytes
 pub gives : (bytes : List ℕ) (frames : List Frame) (frame : Frame) (count : ℕ) → frame.next + count ≤ frame.end → frame.end ≤ length bytes →
     drop count (unread bytes (frames ++ frame ∷ [])) ≡ frame_bytes bytes (record frame { next = frame.next + count }) ++ unread bytes frames
-gives bytes frames frame count less within =
-    ap (drop count) (unread-push bytes frames frame)
-    ∙ drop-append-le count (frame_bytes bytes frame) (unread bytes frames)
-    (omega (arith, less, within, length-all_at frame.place (sublist bytes frame.next frame.end), length-take (frame.end - frame.next) (drop frame.next bytes), length-drop frame.next bytes))
-    ∙ ap (λ (xs : List Placed). xs ++ unread bytes frames)
-    (drop-map (λ (b : ℕ). placed_at b frame.place) count (sublist bytes frame.next frame.end) ∙ ap (all_at frame.place) (drop-sublist bytes frame.next frame.end count (omega (arith, less))))
+gives bytes frames frame count less within = grind (arith, unread-push, drop-append-le, length-all_at, length-take, length-drop, drop-map, drop-sublist)
 
 -- the unread bytes are unchanged when bytes are added to the store
 pub unread-store_grown : (bytes more : List ℕ) (frames : List Frame) → FramesIn (length bytes) frames → unread (bytes ++ more) frames ≡ unread bytes frames
@@ -118,10 +83,7 @@ length-sublist bytes start end h within = length-take (end - start) (drop start 
 -- the number of unread bytes with one more body
 pub length-unread-push : (bytes : List ℕ) (frames : List Frame) (frame : Frame) → IsFrame (length bytes) frame →
     length (unread bytes (frames ++ frame ∷ [])) ≡ length (unread bytes frames) + (frame.end - frame.next)
-length-unread-push bytes frames frame h =
-    let pushed = ap length (unread-push bytes frames frame) ∙ length-append (frame_bytes bytes frame) (unread bytes frames) in
-    let count = length-all_at frame.place (sublist bytes frame.next frame.end) ∙ length-sublist bytes frame.next frame.end (omega (arith, h.0)) h.1 in
-    omega (arith, pushed, count)
+length-unread-push bytes frames frame h = grind (arith, unread-push, length-append, length-all_at, length-sublist)
 
 -- each body that is read has an unread byte
 pub frames-unread : (bytes : List ℕ) (frames : List Frame) → FramesIn (length bytes) frames → length frames ≤ length (unread bytes frames)
@@ -156,9 +118,7 @@ drop-placed_by_step place step (b ∷ bs) (suc n) = drop-placed_by_step (place +
 -- the byte of a slice at an index, and those after it
 pub byte-placed_by_step : (place step : ℕ) (bs : List ℕ) (n : ℕ) → n < length bs → drop n (placed_by_step place step bs) ≡ placed_at (get_or bs n 0) (place + step * n) ∷ placed_by_step (place + step * (n + 1)) step (drop (n + 1) bs)
 unfolding placed_by_step
-byte-placed_by_step place step bs n less =
-    drop-placed_by_step place step bs n ∙ ap (placed_by_step (place + step * n) step) (drop_more bs n 0 less)
-    ∙ ap (λ (p : ℕ). placed_at (get_or bs n 0) (place + step * n) ∷ placed_by_step p step (drop (n + 1) bs)) (let e : place + step * n + step ≡ place + step * (n + 1) = grind arith in e)
+byte-placed_by_step place step bs n less = grind (arith, drop-placed_by_step, drop_more)
 
 -- the first of some bytes
 pub first_of : (xs : List Placed) (b : ℕ) (bs : List ℕ) → bytes_of xs ≡ b ∷ bs → (x : Placed) × (ys : List Placed) × (xs ≡ x ∷ ys) × (x.byte ≡ b) × (bytes_of ys ≡ bs)
@@ -217,8 +177,7 @@ pub drop_next : (frames : List Placed) (place at n : ℕ) (piece : List ℕ) →
     drop n (frames ++ placed_from place (drop at piece)) ≡ drop n frames ++ placed_from (place + (n - length frames)) (drop (at + (n - length frames)) piece)
 drop_next [] place at n piece =
     let all : n - 0 ≡ n = omega arith in
-    let gone = drop_all {X = Placed} n [] (omega arith) in
-    rw (all, gone) (drop-placed n place (drop at piece) ∙ ap (placed_from (place + n)) (drop-drop n at piece))
+    rw (all, (drop_all {X = Placed} n [] (omega arith))) (drop-placed n place (drop at piece) ∙ ap (placed_from (place + n)) (drop-drop n at piece))
 drop_next (x ∷ xs) place at zero piece =
     let none : 0 - suc (length xs) ≡ 0 = omega arith in
     rw (none, add-zero, add-zero) refl
@@ -229,8 +188,7 @@ pub take_next : (frames : List Placed) (place : ℕ) (bs : List ℕ) (n : ℕ) �
 unfolding placed_from
 take_next [] place bs n =
     let all : n - 0 ≡ n = omega arith in
-    let gone = drop_all {X = Placed} n [] (omega arith) in
-    rw (all, gone, append-nil) (sym (take-placed n place bs))
+    rw (all, (drop_all {X = Placed} n [] (omega arith)), append-nil) (sym (take-placed n place bs))
 take_next (x ∷ xs) place bs zero = let none : 0 - suc (length xs) ≡ 0 = omega arith in rw none (ap (λ (ys : List Placed). x ∷ ys) (append-nil xs))
 take_next (x ∷ xs) place bs (suc n) =
     let less : suc n - suc (length xs) ≡ n - length xs = omega arith in
@@ -238,8 +196,7 @@ take_next (x ∷ xs) place bs (suc n) =
 
 -- the number of the next bytes
 pub length-next : (p : Position) (piece : List ℕ) → length (bytes_from p piece) ≡ length p.frames + (length piece - p.at)
-length-next p piece =
-    length-append p.frames (placed_from p.place (drop p.at piece)) ∙ ap (λ (n : ℕ). length p.frames + n) (length-placed p.place (drop p.at piece) ∙ length-drop p.at piece)
+length-next p piece = grind (arith, length-append, length-placed, length-drop)
 
 -- The next byte can be passed.
 pub can_next : {input : Input} {piece : List ℕ} → Reads input piece → 0 < length (next_bytes input piece) → CanPass input piece 1
@@ -257,11 +214,7 @@ can_pass next = (_, passes_next next)
 
 -- fewer bytes can be passed
 pub can_less : {input : Input} {piece : List ℕ} {n : ℕ} (k : ℕ) → k ≤ n → CanPass input piece n → CanPass input piece k
-can_less k few can = record {
-  reads = can.reads;
-  of_piece = λ none. let all = can.of_piece none in omega (arith, few, all);
-  of_body = λ before frame is. let all = can.of_body before frame is in omega (arith, few, all);
-}
+can_less k few can = grind arith
 
 -- they are of bodies, unless no body is being read
 inside_last : (bytes : List ℕ) (first : Frame) (others : List Frame) (n : ℕ) → FramesIn (length bytes) (first ∷ others) → ((before : List Frame) (frame : Frame) → first ∷ others ≡ before ++ frame ∷ [] → frame.next + n ≤ frame.end) → n ≤ length (unread bytes (first ∷ others))
@@ -288,21 +241,12 @@ can_few {input} {piece} {n} can = at input.frames.stack.items refl
   where
     at : (frames : List Frame) → input.frames.stack.items ≡ frames → n ≤ length (next_bytes input piece)
     at [] none = let all = can.of_piece none in omega (arith, all, length-next (position_of input) piece)
-    at (first ∷ others) is =
-        let inside = can_inside can (λ none. let bad : first ∷ others ≡ [] = sym is ∙ none in cc) in
-        omega (arith, inside, length-next (position_of input) piece)
+    at (first ∷ others) is = omega (arith, (can_inside can (λ none. let bad : first ∷ others ≡ [] = sym is ∙ none in cc)), length-next (position_of input) piece)
 
 -- the first of them, in the store
 pub taken_inside : (stored : List ℕ) (before : List Frame) (frame : Frame) (following : List Placed) (n : ℕ) → IsFrame (length stored) frame → frame.next + n ≤ frame.end →
     sublist stored frame.next (frame.next + n) ≡ bytes_of (take n (unread stored (before ++ frame ∷ []) ++ following))
-taken_inside stored before frame following n in_store few =
-    let text = sublist stored frame.next frame.end in
-    let rest = unread stored before ++ following in
-    let same : frame.next + n - frame.next ≡ n = omega arith in
-    ap (λ (k : ℕ). take k (drop frame.next stored)) same ∙ sym (take-take n (frame.end - frame.next) (drop frame.next stored) (omega (arith, few)))
-    ∙ ap (take n) (sym (bytes_of-all_at frame.place text)) ∙ take-map (λ (x : Placed). x.byte) n (frame_bytes stored frame)
-    ∙ ap bytes_of (sym (take-append-le n (frame_bytes stored frame) rest (omega (arith, few, length-all_at frame.place text, length-sublist stored frame.next frame.end (omega (arith, in_store.0)) in_store.1)))
-    ∙ ap (take n) (sym (append_assoc (frame_bytes stored frame) (unread stored before) following) ∙ ap (λ (xs : List Placed). xs ++ following) (sym (unread-push stored before frame))))
+taken_inside stored before frame following n in_store few = grind (arith, take-take, bytes_of-all_at, take-map, take-append-le, length-all_at, length-sublist, append_assoc, unread-push)
 
 -- the first byte of the innermost of some bodies
 pub following_in_body : (stored : List ℕ) (frames : List Frame) → FramesIn (length stored) frames → (d : Frame) → 0 < length frames → (rest : List ℕ) × (bytes_of (unread stored frames) ≡ get_or stored (get_or frames (length frames - 1) d).next 0 ∷ rest)
@@ -330,17 +274,7 @@ following_in_body stored (frame ∷ frames) framed d some = at frames (All-head 
 -- The next slice is of the piece, or of the innermost body.
 
 pub piece_next : {input : Input} {piece : List ℕ} → Reads input piece → input.frames.stack.items ≡ [] → input.at < length piece → IsNextText input piece input.fed 1 (drop input.at piece) false
-piece_next {input} {piece} reads none less = record {
-  some = omega (arith, less, length-drop input.at piece);
-  more = [];
-  is = ap (λ (frames : List Frame). unread input.store.bytes frames ++ placed_from input.fed (drop input.at piece)) none ∙ sym (append-nil (placed_by_step input.fed 1 (drop input.at piece)) ∙ placed_by_step-one input.fed (drop input.at piece));
-  passes = record {
-    reads = reads;
-    of_piece = λ none. omega (arith, less, length-drop input.at piece);
-    of_body = λ before frame is. absurd (omega (arith, ap (λ (frames : List Frame). length frames) (sym none ∙ is), length-append before (frame ∷ [])));
-  };
-  over = λ ended. let bad : false ≡ true = ended in cc;
-}
+piece_next {input} {piece} reads none less = grind (arith, length-drop, append-nil, placed_by_step-one, length-append)
 
 pub body_next : {input : Input} {piece text : List ℕ} {place : ℕ} {ended : Bool} → Reads input piece → (inner : Innermost input.store.bytes input.frames.stack.items text place) → (ended ≡ true → IsOver (bytes_of (unread input.store.bytes inner.before) ++ drop input.at piece)) → IsNextText input piece place 0 text ended
 body_next {input} {piece} {text} {place} reads inner over =
@@ -381,9 +315,4 @@ none_left input piece none all =
 -- The open body has grown, or memory was lacking and it is unchanged.
 pub grown : {E : Type 0} (input : Input) (new : StoreState) (more : List ℕ) (r : Result (Unit {0}) E) → OnOk r (new ≡ store_grown input.store more) → OnErr r (new ≡ input.store) → input.store.stored + length input.store.body + length more ≤ store_limit →
     FramesIn (length new.bytes) input.frames.stack.items × (input.turns + length (unread new.bytes input.frames.stack.items) ≡ input.fed + input.charged) × (new.stored + length new.body ≤ store_limit) × (length new.bytes ≤ new.stored + length new.body + input.charged) × (new.promise.charged ≤ vec_capacity input.frames.stack)
-grown input new more (Ok done) is err few =
-    let sizes = ap (λ (t : StoreState). t.stored + length t.body) is ∙ ap (λ (n : ℕ). input.store.stored + n) (length-append input.store.body more) in
-    let bytes = ap (λ (t : StoreState). length t.bytes) is ∙ length-append input.store.bytes more in
-    let same = ap (λ (t : StoreState). length (unread t.bytes input.frames.stack.items)) is ∙ ap length (unread-store_grown input.store.bytes more input.frames.stack.items input.framed) in
-    (frames-store input.store new more input.frames.stack.items (ap (λ (t : StoreState). t.bytes) is) input.framed, omega (arith, input.turned, same), omega (arith, few, sizes), omega (arith, input.paired, sizes, bytes), omega (arith, input.deep, ap (λ (t : StoreState). t.promise.charged) is))
-grown input new more (Err e) ok is few = rw is (input.framed, input.turned, input.few, input.paired, input.deep)
+grown input new more r h k e = grind (arith, length-append, unread-store_grown, frames-store)

@@ -1,4 +1,4 @@
-use Rattle.nap_reader.proofs.Common.{All, All-cons, All-head, All-nil, All-tail, AreOfBody, ArePending, ArePendingIn, BodyFront, Bool, Continues, EighthBit, Fault, Ghosts, IsOpenBody, IsRefused, List, Machine, Mode, None, OpenBody, Option, Outcome, Placed, ReadingState, Some, Store, [], act, after_body, ap, append-nil, append_assoc, ap₂, arith, between, body_front, body_front_after, body_front_by, bound_front, bytes_of, drop-append-add, drop_at, ends_body, eqb, eqb-false, eqb-true, false, in_body, le-leb, length, length-append, length-map, lt-leb, nat_tests, ne_eqb, outcome_from, pending_escape, place_at, prepend, refl, refusal, refuse, shown_front, store_limit, stores, stream_front, subst, sym, take, take-append-add, take-map, take_at, true, ℕ, ◌++◌, ◌+◌, ◌-◌, ◌<◌, ◌∙◌, ◌∷◌, ◌≡◌, ◌≢◌, ◌≤◌}
+use Rattle.nap_reader.proofs.Common.{All, All-cons, All-head, All-nil, All-tail, AreOfBody, ArePending, ArePendingIn, BodyFront, Bool, Continues, EighthBit, Fault, Ghosts, IsOpenBody, IsRefused, List, Machine, Mode, None, OpenBody, Option, Outcome, Placed, ReadingState, Some, Store, [], act, after_body, ap, append-nil, append_assoc, ap₂, arith, between, body_front, body_front_after, body_front_by, bound_front, bytes_of, drop-append-add, drop_at, ends_body, eqb, eqb-false, eqb-true, false, in_body, length, length-append, length-map, lt-leb, nat_tests, ne_eqb, outcome_from, pending_escape, place_at, prepend, refl, refusal, refuse, shown_front, store_limit, stores, stream_front, subst, sym, take, take-append-add, take-map, take_at, true, ℕ, ◌++◌, ◌+◌, ◌-◌, ◌<◌, ◌∙◌, ◌∷◌, ◌≡◌, ◌≢◌, ◌≤◌}
 use Rattle.nap_reader.specs.Bodies as bodies
 use Rattle.nap_reader.proofs.ReadingLemmas.{by_front, front_at, holds_nothing, leads_to_refusal, place_at-following}
 use Rattle.nap_reader.proofs.StreamLemmas.{bytes_of-append}
@@ -40,8 +40,7 @@ ended_front space byte bytes ends = search (arith) steps 100000
 pub eighth_front : (space : ℕ) (x : Placed) (escape : Option ℕ) (more : List Placed) → 128 ≤ x.byte →
     (body_front space (bytes_of (pending_escape escape) ++ x.byte ∷ bytes_of more) ≡ bodies.refused EighthBit (length (pending_escape escape))) × (place_at (pending_escape escape ++ x ∷ more) (length (pending_escape escape)) ≡ x.place)
 unfolding body_front
-eighth_front space x None more high = (rw (le-leb 128 x.byte high) refl, refl)
-eighth_front space x (Some place) more high = (rw (le-leb 128 x.byte high) refl, refl)
+eighth_front space x escape more h = grind arith
 
 pub plain_full : (space byte : ℕ) (bytes : List ℕ) → IsPlain byte → space ≡ 0 → body_front space (byte ∷ bytes) ≡ bodies.refused Store 0
 plain_full space byte bytes plain none = plain_front space byte bytes plain ∙ rw none refl
@@ -137,8 +136,7 @@ module _ {S : Type 0} {g : Ghosts S} {s : S} {o : Outcome} {t : S} {h : ReadingS
         let size : length h.body ≡ length p.bytes = ap length (sym p.body) ∙ length-map p.bytes _ in
         let bytes : bytes_of (p.bytes ++ next) ≡ h.body ++ (bytes_of (pending_escape b.escape) ++ bytes_of pending) =
         bytes_of-append p.bytes next ∙ ap₂ (λ (xs ys : List ℕ). xs ++ ys) p.body (bytes_of-append (pending_escape b.escape) pending) in
-        ap (stream_front h.machine) all ∙ front_at h.machine (p.bytes ++ next) p.mode
-        ∙ ap (body_front_by h.machine b.name b.show (p.bytes ++ next))
+        ap (stream_front h.machine) all ∙ front_at h.machine (p.bytes ++ next) p.mode ∙ ap (body_front_by h.machine b.name b.show (p.bytes ++ next))
         (ap (body_front (store_limit - h.machine.stored)) bytes ∙ p.are_of_body (bytes_of pending) ∙ ap₂ body_front_after size e)
 
     -- they are refused
@@ -193,8 +191,7 @@ module _ {S : Type 0} {g : Ghosts S} {s : S} {o : Outcome} {t : S} {h : ReadingS
     leads =
         let p = pending_body opened k in
         let rest = escape_at place ∷ x ∷ pending in
-        by_front k (act [] (after_body h.machine name h.body) rest)
-        (ends_at false opened
+        by_front k (act [] (after_body h.machine name h.body) rest) (ends_at false opened
         ∙ rw (bytes_of-append p.bytes rest, take_at (bytes_of p.bytes) (bytes_of rest) (length p.bytes) (length-map p.bytes _), drop_at p.bytes rest (length p.bytes) refl, p.body) refl);
   }
 

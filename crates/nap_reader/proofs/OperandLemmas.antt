@@ -1,11 +1,17 @@
-use Rattle.nap_reader.proofs.Common.{All, All-head, All-tail, Bool, Fits, IsOver, IsTextByte, IsWholeRun, List, OpenRun, Option, Some, [], ap, append_assoc, ap₂, arith, chunk-drop, cond, count_trailing_zeros, drop, drop-drop, eq-eqb, eqb, format_effector, get_or, get_or-drop, get_or-take, is_from, is_of_text, is_operand_byte, is_other, is_some, leading_from_mask_l, leb, length, length-chunk, length-drop, length-map, length-prefix_len, length-take-le, map, map-append, mask_l-mod, nat_tests, ne_eqb, not, operand_words, prefix_len, prefix_len-append, prefix_len-drop_yes, prefix_len-le-length, prefix_len_passes, prefix_len_stops, refl, replicate, run_by, sym, take, take-append-drop, trailing_mask_l, true, w8, ℕ, ◌%◌, ◌*◌, ◌++◌, ◌+◌, ◌-◌, ◌<◌, ◌^◌, ◌∙◌, ◌∷◌, ◌≡◌, ◌≤◌}
+use Rattle.nap_reader.proofs.Common.{All, All-head, All-tail, Bool, Fits, IsOver, IsTextByte, IsWholeRun, List, OpenRun, Option, Some, [], ap, append_assoc, ap₂, arith, chunk-drop, cond, count_trailing_zeros, drop, eq-eqb, eqb, get_or, get_or-drop, get_or-take, is_from, is_of_text, is_operand_byte, is_other, leading_from_mask_l, leb, length, length-chunk, length-drop, length-map, length-prefix_len, length-take-le, map, map-append, mask_l-mod, nat_tests, ne_eqb, not, operand_words, prefix_len, prefix_len-append, prefix_len-le-length, prefix_len_passes, prefix_len_stops, refl, replicate, run_by, sym, take, take-append-drop, trailing_mask_l, true, w8, ℕ, ◌%◌, ◌*◌, ◌++◌, ◌+◌, ◌-◌, ◌<◌, ◌^◌, ◌∙◌, ◌∷◌, ◌≡◌, ◌≢◌, ◌≤◌}
 use lib.Lanes.{Each1, chunk, mask_l, top, zip2}
 
 -- Operand bytes of a prefix, and their words. Bytes of a range in a prefix, counted in blocks by the mask of the
 -- others.
 
+-- what a test tells of elements is true of all elements of a prefix that passes it
+pub prefix_all : {X : Type 0} (P : X → Type 0) (test : X → Bool) (xs : List X) (n : ℕ) → ((x : X) → test x ≡ true → P x) → n ≤ prefix_len test xs → All P (take n xs)
+prefix_all P test xs n passes few k d less =
+    let fewer : k < n = omega (arith, less, length-take-le n xs (omega (arith, few, prefix_len-le-length test xs))) in
+    rw (get_or-take n xs k d fewer) (passes (get_or xs k d) (prefix_len_passes test xs k d (omega arith)))
+
 pub operands_prefix : (bytes : List ℕ) (n : ℕ) → n ≤ prefix_len is_operand_byte bytes → All (λ b. is_operand_byte b ≡ true) (take n bytes)
-operands_prefix bytes n few k d within = grind (arith, length-take-le n bytes, get_or-take n bytes k d, prefix_len_passes is_operand_byte bytes k d, prefix_len-le-length is_operand_byte bytes)
+operands_prefix bytes n few = prefix_all (λ b. is_operand_byte b ≡ true) is_operand_byte bytes n (λ b is. is) few
 
 -- no operand comes after the operand bytes of a prefix
 pub run_over : (piece following : List ℕ) (n : ℕ) → n ≡ prefix_len is_operand_byte piece → (n ≡ length piece → IsOver following) → IsOver (drop n piece ++ following)
@@ -93,11 +99,18 @@ module _ (least n : ℕ) (piece : List ℕ) (i : ℕ) (space : i + n ≤ length 
       let all = simp not-not at (leading_from_mask_l (is_other least) block none) in
       by_block ∙ rw (all, eq-eqb (length block) (length block) refl, length-chunk i n piece space)
 
-  -- a block in which the bytes of the range end
+  -- A block with another byte ends the bytes of the range.
+
+  ends : 0 < mask_l (map (is_other least) block) → prefix_len (is_from least) block ≢ length block
+  ends some all = omega (arith, some, all_pass least block (simp not-not all))
+
   pub in_block : (others : ℕ) → others ≡ mask_l (map (is_other least) block) → n ≤ 64 → 0 < others → prefix_len (is_from least) (drop i piece) ≡ count_trailing_zeros 64 others
-  in_block others is few some =
-      let first = simp not-not at (trailing_mask_l (is_other least) 64 block (omega (arith, length-chunk i n piece space, few)) (omega (arith, is, some))) in
-      by_block ∙ rw (is, ne_eqb (prefix_len (is_from least) block) (length block) (λ all. omega (arith, all_pass least block (simp not-not all)))) (sym first)
+  in_block others is few some = grind (arith, not-not, trailing_mask_l, length-chunk, by_block, ne_eqb, all_pass)
+
+  pub ends_in_block : 0 < mask_l (map (is_other least) block) → prefix_len (is_from least) (drop i piece) < n
+  ends_in_block some =
+      let whole = rw (ne_eqb (prefix_len (is_from least) block) (length block) (ends some)) at by_block in
+      omega (arith, whole, ends some, prefix_len-le-length (is_from least) block, length-chunk i n piece space)
 
 -- ---- the first bytes
 
@@ -105,23 +118,6 @@ pub at_prefix : (test : ℕ → Bool) (piece bytes : List ℕ) → bytes ≡ tak
 at_prefix test piece bytes is = rw (is, length-prefix_len test piece) (prefix_len-le-length test piece, refl)
 
 -- ---- bytes of a text
-
--- the first n bytes are of a text, and the next one isn't from 20 to 7F
-abbrev pub PassesGraphic : List ℕ → ℕ → Type 0
-PassesGraphic xs n = (prefix_len is_of_text xs ≡ n + prefix_len is_of_text (drop n xs)) × (prefix_len (is_from 32) (drop n xs) ≡ 0)
-
--- the first bytes from 20 to 7F pass so
-past_one : (b : ℕ) (xs : List ℕ) → PassesGraphic xs (prefix_len (is_from 32) xs) → PassesGraphic (b ∷ xs) (prefix_len (is_from 32) (b ∷ xs))
-past_one b xs rest = grind arith
-
-pub past_graphic : (xs : List ℕ) → PassesGraphic xs (prefix_len (is_from 32) xs)
-past_graphic [] = (refl, refl)
-past_graphic (b ∷ xs) = past_one b xs (past_graphic xs)
-
--- a format effector and the bytes from 20 to 7F after it pass so
-pub past_effector : (xs : List ℕ) (at n : ℕ) → at < length xs → is_some (format_effector (get_or xs at 0)) ≡ true → n ≡ prefix_len (is_from 32) (drop (at + 1) xs) →
-    (prefix_len is_of_text (drop at xs) ≡ 1 + n + prefix_len is_of_text (drop (at + 1 + n) xs)) × (prefix_len (is_from 32) (drop (at + 1 + n) xs) ≡ 0)
-past_effector xs at n within is counted = grind (arith, drop-drop n (at + 1) xs, prefix_len-drop_yes is_of_text xs at 0 within, past_graphic (drop (at + 1) xs))
 
 -- a byte of a text is a format effector of one byte, or a code of a set
 pub of_text_is : (b : ℕ) → is_of_text b ≡ true → IsTextByte b

@@ -1,4 +1,4 @@
-use Rattle.nap_reader.proofs.Common.{Breaks, BreaksFrom, Cause, DrawFault, Entry, Ghosts, GivesSome, Leads, List, Memory, NeverWants, None, Ok, Outcome, Passes, Placed, ReadingState, Result, RuleResult, TakesPart, TakesSome, TookPart, TookPrefix, WantsBy, [], ap, append-nil, append_assoc, arith, at_byte, cause_of, device, draw_fault, false, inl, inr, kept_list, length, length-append, memory, outcome_from, refl, refusal, stream, subst, sym, true, ◌++◌, ◌∙◌, ◌∷◌, ◌≡◌, ◌≢◌}
+use Rattle.nap_reader.proofs.Common.{Breaks, BreaksFrom, Cause, DrawFault, Entry, Ghosts, GivesSome, Leads, List, Memory, NeverWants, None, Ok, Outcome, Passes, Placed, ReadingState, Result, RuleResult, TakesSome, TookPart, TookPrefix, WantsBy, [], ap, append-nil, append_assoc, arith, at_byte, cause_of, draw_fault, false, inr, kept_list, length, length-append, memory, refl, refusal, stream, subst, true, ◌++◌, ◌∷◌, ◌≡◌, ◌≢◌}
 use Rattle.nap_draw.specs.Draws as draws
 use Rattle.nap_reader.proofs.ReadingLemmas.{Lawful, rule_part, was_failed}
 
@@ -21,41 +21,23 @@ took_prefix g s known more t cause part = grind (arith, append-nil)
 breaks_as : {S : Type 0} {g : Ghosts S} {s t u : S} {known : List Entry} {o whole : Outcome} {cause : Cause} (known' before following : List Entry) → (g.failed t ≡ true → g.failed s ≡ true) →
     ((first : List Entry) → g.took t (known ++ first) u → g.took s (known' ++ (before ++ first)) u) → ((first : List Entry) (next : Entry) → g.broke t (known ++ first) next u → g.broke s (known' ++ (before ++ first)) next u) →
     (h : BreaksFrom g t known o u cause) → whole.entries ≡ known' ++ (before ++ (h.more ++ following)) → BreaksFrom g s known' whole u cause
-breaks_as {S} {g} {s} {t} {u} {known} {o} {whole} {cause} known' before following failed took broke h adds = record { more = before ++ (h.more ++ following); adds = adds; part = at cause h.part }
-  where
-    all : (first rest : List Entry) → h.more ≡ first ++ rest → before ++ (h.more ++ following) ≡ (before ++ first) ++ (rest ++ following)
-    all first rest parts = ap (λ (es : List Entry). before ++ (es ++ following)) parts ∙ ap (λ (es : List Entry). before ++ es) (append_assoc first rest following) ∙ sym (append_assoc before first (rest ++ following))
-
-    takes : TakesPart g t known h.more u → TakesPart g s known' (before ++ (h.more ++ following)) u
-    takes (first, rest, parts, taken) = (before ++ first, rest ++ following, all first rest parts, took first taken)
-
-    at : (cause : Cause) → TookPrefix g t known h.more u cause → TookPrefix g s known' (before ++ (h.more ++ following)) u cause
-    at stream part = part
-    at memory part = takes part
-    at device (inl (set, part)) = inl (failed set, takes part)
-    at device (inr (first, next, rest, parts, broken)) = inr (before ++ first, next, rest ++ following, all first (next ∷ rest) parts, broke first next broken)
+breaks_as {S} {g} {s} {t} {u} {known} {o} {whole} {cause} known' before following failed took broke h adds = grind (arith, append_assoc)
 
 -- a break with fewer known entries
 pub breaks_longer : {S : Type 0} {g : Ghosts S} {s : S} {o : Outcome} {t : S} {cause : Cause} (known es : List Entry) → BreaksFrom g s (known ++ es) o t cause → BreaksFrom g s known o t cause
-breaks_longer {g = g} {s = s} {t = t} known es h =
-    breaks_as known es [] (λ set. set) (λ first. subst (λ (xs : List Entry). g.took s xs t) (append_assoc known es first)) (λ first next. subst (λ (xs : List Entry). g.broke s xs next t) (append_assoc known es first)) h
-    (h.adds ∙ append_assoc known es h.more ∙ ap (λ (xs : List Entry). known ++ (es ++ xs)) (sym (append-nil h.more)))
+breaks_longer {g = g} {s = s} {t = t} known es h = grind (arith, breaks_as, append_assoc, append-nil)
 
 -- a break with more entries after it
 pub breaks_more : {S : Type 0} {g : Ghosts S} {s : S} {known : List Entry} {o whole : Outcome} {t : S} {cause : Cause} (es : List Entry) → whole.entries ≡ o.entries ++ es → BreaksFrom g s known o t cause → BreaksFrom g s known whole t cause
-breaks_more {known = known} es more h =
-    breaks_as known [] es (λ set. set) (λ first took. took) (λ first next broke. broke) h (more ∙ ap (λ (xs : List Entry). xs ++ es) h.adds ∙ append_assoc known h.more es)
+breaks_more {known = known} es more h = grind (arith, breaks_as, append_assoc)
 
 -- a break after a list that was taken
 pub breaks_after : {S : Type 0} {g : Ghosts S} {s t u : S} {known : List Entry} {o whole : Outcome} {cause : Cause} → Lawful g → Known g s known t → whole.entries ≡ known ++ o.entries → BreaksFrom g t [] o u cause → BreaksFrom g s known whole u cause
-breaks_after {g = g} {s = s} {t = t} {u = u} {known = known} laws k is h =
-    breaks_as known [] [] (was_failed g s t k.clear) (λ first. laws.more s t u known first k.taken) (λ first next. laws.broken s t u known first next k.taken) h (is ∙ ap (λ (xs : List Entry). known ++ xs) (h.adds ∙ sym (append-nil h.more)))
+breaks_after {g = g} {s = s} {t = t} {u = u} {known = known} laws k is h = grind arith
 
 -- the known entries are the first of the outcome
 pub known_first : {o : Outcome} {known : List Entry} {h : ReadingState} {pending : List Placed} → Leads o known h pending → (more : List Entry) × (o.entries ≡ known ++ more)
-known_first {h = h} {pending = pending} k =
-    let more = (outcome_from h.machine (k.rest ++ pending)).entries in
-    (more, ap (λ (o : Outcome). o.entries) k.leads ∙ ap (λ (es : List Entry). es ++ more) (sym k.taken))
+known_first {h = h} {pending = pending} k = grind arith
 
 -- a part of the last known entries is a part of the outcome's
 pub part_from : {S : Type 0} (g : Ghosts S) (s u : S) {o : Outcome} (known adds : List Entry) {h : ReadingState} {pending : List Placed} (cause : Cause) → Leads o (known ++ adds) h pending → TookPart g s known adds u cause → BreaksFrom g s known o u cause
@@ -72,11 +54,7 @@ pub record Fails {S : Type 0} (g : Ghosts S) (by : Result RuleResult DrawFault) 
 
 -- memory isn't lacking for a sink that never wants any
 pub fails_spare : {S : Type 0} {g : Ghosts S} {by : Result RuleResult DrawFault} {t u : S} (fault : DrawFault) → Fails g by t u fault → NeverWants g t → draw_fault fault ≢ Memory
-fails_spare {g = g} {t = t} {u = u} DrawFault.Memory fails never is =
-    let (drawn, by_is, _) = fails.drew in
-    let wanted = subst (λ (by : Result RuleResult DrawFault). WantsBy g by t u) by_is (fails.wants refl) in
-    never drawn.entries wanted.wants
-fails_spare _ fails never is = cc
+fails_spare fault h k e = grind arith
 
 -- A byte ends a code, whose rule acts, and not all of its entries could be put.
 pub code_breaks : {S : Type 0} {g : Ghosts S} {t u : S} {h : ReadingState} {x : Placed} {fault : DrawFault} {by : Result RuleResult DrawFault} (after : RuleResult → ReadingState) → h.open_run ≡ None →

@@ -3,13 +3,6 @@ use Rattle.nap_reader.proofs.Base.{IsAt, Lawful, as_it_was, breaks_after, bytes_
 
 -- How a piece is consumed.
 
--- a piece up to an index, and bytes from there on
-pub taken_further : (p piece bytes : List ℕ) (at : ℕ) → take (length bytes) (drop at piece) ≡ bytes → (p ++ take at piece) ++ bytes ≡ p ++ take (at + length bytes) piece
-taken_further p piece bytes at front =
-    append_assoc p (take at piece) bytes
-    ∙ ap (λ (q : List ℕ). p ++ (take at piece ++ q)) (sym front)
-    ∙ ap (λ (q : List ℕ). p ++ q) (sym (take-add at (length bytes) piece))
-
 -- the number of bytes up to an index
 pub length_taken : (p piece : List ℕ) (at : ℕ) → at ≤ length piece → length (p ++ take at piece) ≡ length p + at
 length_taken p piece at within = length-append p (take at piece) ∙ ap (λ (n : ℕ). length p + n) (length-take-le at piece within)

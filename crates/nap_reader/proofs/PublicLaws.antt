@@ -37,5 +37,4 @@ pub code_acts : CodeActs
 code_acts m c before last after ys is =
     let size : length before + 1 ≡ length (bytes_of before ++ last.byte ∷ []) =
     omega (arith, length-append (bytes_of before) (last.byte ∷ []), length-map before (λ (y : Placed). y.byte)) in
-    front_code m before last ys is.mode refl is.names size
-    ∙ alone_front (record m { sets = after }) c last.place ys is.alone
+    front_code m before last ys is.mode refl is.names size ∙ alone_front (record m { sets = after }) c last.place ys is.alone

@@ -1,4 +1,4 @@
-use Rattle.nap_reader.proofs.Common.{ArePending, ArePendingBetweenCodes, ArePendingBy, ArePendingIn, Bool, Budget, Code, CodeFault, CodeSets, Continues, DrawFault, Entry, Err, Ghosts, IfErr, IsDrawn, IsOpenBody, IsOpenRun, IsRefused, Kind, Leads, List, LongRun, Machine, Mode, None, Ok, OnOk, Opcode, OpenBody, OpenRun, Option, Outcome, Owes, Placed, ReadingState, Refusal, Result, RuleResult, Some, StreamFront, TakesSome, [], act, after_charge, after_drawing, all_at, ap, append-nil, append_assoc, arith, begun, between, body_front, body_front_by, bytes_of, cause_of, closed_front, code_fault, code_front, code_ranges, code_stays, cond-false, cond-true, continue, draw_fault, drawn_front, drop, drop-append_seam, drop_at, eq-eqb, false, front_by, front_in, half_read, is_operand, kept_list, kind_of, le-ltb, length, length-append, length-map, length-prefix_len, lt-ltb, map-append, opcodes_are_drawn, opened_front, outcome_by_front, outcome_from, pause, paused, pending_escape, place_at, placed_from, prefix_len-append, prepend, refl, refusal, refuse, refused_stays, rule, run_length, run_limit, shown_front, start_machine, store_limit, stream, stream_front, subst, suc, sym, take, take-append_seam, true, unfinished_by, unfinished_of, ℕ, ◌++◌, ◌+◌, ◌-◌, ◌<◌, ◌∙◌, ◌∷◌, ◌≡◌, ◌≢◌, ◌≤◌}
+use Rattle.nap_reader.proofs.Common.{ArePending, ArePendingBetweenCodes, ArePendingBy, ArePendingIn, Bool, Budget, Code, CodeFault, CodeSets, Continues, DrawFault, Entry, Err, Ghosts, IsDrawn, IsOpenBody, IsOpenRun, IsRefused, Kind, Leads, List, LongRun, Machine, Mode, None, Ok, OnOk, Opcode, OpenBody, OpenRun, Option, Outcome, Owes, Placed, ReadingState, Refusal, Result, RuleResult, Some, StreamFront, TakesSome, [], act, after_charge, after_drawing, all_at, ap, append-nil, append_assoc, arith, begun, between, body_front, body_front_by, bytes_of, cause_of, closed_front, code_fault, code_front, code_ranges, code_stays, cond-false, cond-true, continue, draw_fault, drawn_front, drop, drop-append_seam, drop_at, eq-eqb, false, front_by, front_in, half_read, is_operand, kept_list, kind_of, le-ltb, length, length-append, length-map, length-prefix_len, lt-ltb, map-append, opcodes_are_drawn, opened_front, outcome_by_front, outcome_from, pause, paused, pending_escape, place_at, placed_from, prefix_len-append, prepend, refl, refusal, refuse, refused_stays, rule, run_length, run_limit, shown_front, start_machine, store_limit, stream, stream_front, subst, suc, sym, take, take-append_seam, true, unfinished_by, unfinished_of, ℕ, ◌++◌, ◌+◌, ◌-◌, ◌<◌, ◌∙◌, ◌∷◌, ◌≡◌, ◌≢◌, ◌≤◌}
 use Rattle.nap_codes.specs.Front as codes
 use Rattle.nap_reader.specs.Stream as model
 use Rattle.nap_reader.proofs.StreamLemmas.{begun-append, bytes_of-append, continue-prepend, outcome_from-append, outcome_from-front, outcome_from-left, prepend-append}
@@ -29,8 +29,7 @@ pub front_code : {half : List ℕ} {c : Code} {n : ℕ} {after : CodeSets} (m : 
     stream_front m (rest ++ x ∷ pending) ≡ code_front (record m { sets = after }) (kind_of c) x.place pending
 front_code {half} {c} {n} {after} m rest x pending mode is e len =
     let count : n ≡ suc (length rest) = omega (arith, len, length-append half (x.byte ∷ []), length_past rest half is) in
-    front_at m (rest ++ x ∷ pending) mode
-    ∙ rw (
+    front_at m (rest ++ x ∷ pending) mode ∙ rw (
       bytes_past rest x pending half is,
       code_stays m.sets (half ++ x.byte ∷ []) (bytes_of pending) c n after e,
       place_at-following rest (x ∷ pending) (n - 1) 0 (omega (arith, count)),
@@ -43,8 +42,7 @@ opcode_first : (m : Machine) (rest : List Placed) (open_run : OpenRun) (run : Li
     (h : IsOpenRun rest open_run run m.sets) →
     stream_front m (rest ++ pending) ≡ opened_front m open_run.op open_run.place (h.operands ++ pending)
 opcode_first m rest open_run run pending mode h =
-    front_at m (rest ++ pending) mode
-    ∙ rw (
+    front_at m (rest ++ pending) mode ∙ rw (
       h.is,
       code_stays m.sets (h.opcode.byte ∷ []) (bytes_of (h.operands ++ pending)) (Code.Op open_run.op) 1 m.sets h.names,
       h.place,
@@ -79,8 +77,7 @@ open_run_pauses m rest open_run run mode h =
 pub half_read_pauses : (m : Machine) (rest : List Placed) (half : List ℕ) → m.mode ≡ between → bytes_of rest ≡ half →
     codes.front m.sets half ≡ codes.unfinished → stream_front m rest ≡ pause (half_read half)
 half_read_pauses m rest half mode is e =
-    front_at m rest mode
-    ∙ ap (front_by m rest) (ap (codes.front m.sets) is ∙ e) ∙ ap (λ (bs : List ℕ). pause (half_read bs)) is
+    front_at m rest mode ∙ ap (front_by m rest) (ap (codes.front m.sets) is ∙ e) ∙ ap (λ (bs : List ℕ). pause (half_read bs)) is
 
 -- a list taken after another is one list taken
 abbrev pub TookMore : {S : Type 0} → Ghosts S → Type 0
@@ -108,8 +105,7 @@ is_between h rest no_body retained = subst (ArePendingIn rest h) no_body retaine
 -- the end of a body isn't seen yet
 escape_waits : (space : ℕ) (escape : Option ℕ) → body_front space (bytes_of (pending_escape escape)) ≡ bodies.unfinished
 unfolding body_front
-escape_waits space None = refl
-escape_waits space (Some place) = refl
+escape_waits space escape = grind arith
 
 open_body_waits : (rest : List Placed) (body : OpenBody) (h : ReadingState) → IsOpenBody rest body h →
     body_front (store_limit - h.machine.stored) (bytes_of rest) ≡ bodies.unfinished
@@ -129,8 +125,7 @@ pending_waits h rest retained = in_mode h.open_body retained
 
     in_mode : (body : Option OpenBody) → ArePendingIn rest h body → stream_front h.machine rest ≡ pause (unfinished_by body h.open_run h.half h.run)
     in_mode None k = at h.open_run k.mode k.half
-    in_mode (Some body) k =
-        front_at h.machine rest k.mode ∙ ap (body_front_by h.machine body.name body.show rest) (open_body_waits rest body h k)
+    in_mode (Some body) k = front_at h.machine rest k.mode ∙ ap (body_front_by h.machine body.name body.show rest) (open_body_waits rest body h k)
 
 pub is_open_run : (h : ReadingState) (rest : List Placed) (open_run : OpenRun) → h.open_body ≡ None → h.open_run ≡ Some open_run → ArePending rest h →
     IsOpenRun rest open_run h.run h.machine.sets × (h.half ≡ [])
@@ -194,8 +189,7 @@ module _ {S : Type 0} {g : Ghosts S} {s : S} {o : Outcome} {t : S} {h : ReadingS
   -- the front is a body that comes next
   pub leads_shown : (m : Machine) (place : ℕ) (bytes : List ℕ) (ys : List Placed) → stream_front h.machine (k.rest ++ pending) ≡ shown_front m place bytes ys →
       length bytes ≤ m.left → (h' : ReadingState) → h'.machine ≡ after_charge m (length bytes) → ArePending [] h' → Continues g s o t h' (all_at place bytes ++ ys)
-  leads_shown m place bytes ys e few h' same retained =
-      leads_past k [] h' (all_at place bytes ++ ys) retained (search (arith, cond-false, le-ltb))
+  leads_shown m place bytes ys e few h' same retained = leads_past k [] h' (all_at place bytes ++ ys) retained (search (arith, cond-false, le-ltb))
 
   -- the front is a body that can't be charged
   pub leads_budget : (m : Machine) (place : ℕ) (bytes : List ℕ) (ys : List Placed) → stream_front h.machine (k.rest ++ pending) ≡ shown_front m place bytes ys →
@@ -206,9 +200,7 @@ module _ {S : Type 0} {g : Ghosts S} {s : S} {o : Outcome} {t : S} {h : ReadingS
   pub leads_to_fault : (u : S) (m : Machine) (place : ℕ) (ys : List Placed) (by : Result RuleResult DrawFault) → stream_front h.machine (k.rest ++ pending) ≡ drawn_front m place ys by →
       (fault : DrawFault) → draws.DrawsBy g.took g.broke g.failed by t u fault (draws.draw_cause fault) → cause_of (draw_fault fault) ≡ stream →
       IsRefused g s o u h (refusal (draw_fault fault) place)
-  leads_to_fault u m place ys by at fault drew own =
-      let (is, same) = refused_by g t u by fault drew own in
-      rw same (leads_to_refusal (refusal (draw_fault fault) place) (at ∙ ap (drawn_front m place ys) is))
+  leads_to_fault u m place ys by at fault drew own = grind (arith, refused_by, leads_to_refusal)
 
 -- the outcome of pending bytes and those after them, by itself
 abbrev pub by_itself : (rest : List Placed) (h : ReadingState) (pending : List Placed) → ArePending rest h → Leads (outcome_from h.machine (rest ++ pending)) [] h pending
@@ -247,10 +239,8 @@ unfoldable pub leads_more : {S : Type 0} {g : Ghosts S} {s : S} {t : S} {owed : 
 leads_more {owed = owed} {h = h} {pending = pending} budget p q k =
     let more = placed_from (length p) q in
     let rest : Outcome = outcome_from h.machine (k.rest ++ pending) in
-    leads_as k (begun budget (p ++ q)) h k.rest (pending ++ more) k.retained
-    (begun-append budget p q
-    ∙ ap (λ (o : Outcome). continue outcome_from o more) k.leads
-    ∙ continue-prepend outcome_from k.done (prepend owed rest) more
+    leads_as k (begun budget (p ++ q)) h k.rest (pending ++ more) k.retained (begun-append budget p q
+    ∙ ap (λ (o : Outcome). continue outcome_from o more) k.leads ∙ continue-prepend outcome_from k.done (prepend owed rest) more
     ∙ ap (prepend k.done) (continue-prepend outcome_from owed rest more
     ∙ ap (prepend owed) (sym (outcome_from-append h.machine (k.rest ++ pending) more) ∙ ap (outcome_from h.machine) (append_assoc k.rest pending more))))
 
@@ -269,26 +259,16 @@ pub rest_of_nothing : (rest : List Placed) → bytes_of rest ≡ [] → rest ≡
 rest_of_nothing [] e = refl
 rest_of_nothing (x ∷ xs) e = cc
 
-pub opcode_of_kind : (c : Code) (op : Opcode) → kind_of c ≡ Kind.Opens op → c ≡ Code.Op op
-opcode_of_kind (Code.Op op') op e = cc
-opcode_of_kind _ op e = cc
+pub opcode_of_kind : (c : Code) (op : Opcode) → kind_of c ≡ Kind.opens op → c ≡ Code.Op op
+opcode_of_kind c op h = grind arith
 
 -- an opcode that opens a run has a rule
 pub opens_drawn : (sets : CodeSets) (xs : List ℕ) (c : Code) (n : ℕ) (after : CodeSets) (op : Opcode) → codes.front sets xs ≡ codes.complete c n after →
-    kind_of c ≡ Kind.Opens op → IsDrawn op
+    kind_of c ≡ Kind.opens op → IsDrawn op
 opens_drawn sets xs c n after op e kind = search (arith, opcodes_are_drawn, opcode_of_kind, code_ranges)
 
 pub on_ok_by : {A E P : Type 0} (r : Result A E) → ((a : A) → r ≡ Ok a → P) → OnOk r P
-on_ok_by (Ok a) f = f a refl
-on_ok_by (Err e) f = tt
-
-pub on_ok_map : {A E P Q : Type 0} (r : Result A E) → OnOk r P → (P → Q) → OnOk r Q
-on_ok_map (Ok a) so f = f so
-on_ok_map (Err e) so f = tt
-
-pub if_err_map : {A E : Type 0} {P Q : E → Type 0} (r : Result A E) → IfErr r P → ((e : E) → P e → Q e) → IfErr r Q
-if_err_map (Ok a) so f = tt
-if_err_map (Err e) so f = f e so
+on_ok_by r h = grind arith
 
 pub is_half : (h : ReadingState) (rest : List Placed) → h.open_body ≡ None → h.open_run ≡ None → ArePending rest h →
     (bytes_of rest ≡ h.half) × (codes.front h.machine.sets h.half ≡ codes.unfinished)
@@ -358,8 +338,7 @@ module _ {S : Type 0} {g : Ghosts S} {s : S} {o : Outcome} {t : S} {h : ReadingS
   -- the byte's code is still incomplete
   pub code_continues : codes.front h.machine.sets (h.half ++ x.byte ∷ []) ≡ codes.unfinished → Continues g s o t (record h { half = h.half ++ x.byte ∷ [] }) pending
   code_continues e =
-      leads_shift k (record h { half = h.half ++ x.byte ∷ [] }) refl
-      (rw no_body (record {
+      leads_shift k (record h { half = h.half ++ x.byte ∷ [] }) refl (rw no_body (record {
         mode = between_pending.mode;
         body = between_pending.body;
         half = rw is (bytes_of-append k.rest (x ∷ []) ∙ ap (λ (bs : List ℕ). bs ++ x.byte ∷ []) half_pending.0, e);

@@ -128,8 +128,7 @@ pub run_too_long : {S : Type 0} {g : Ghosts S} {old new : Machine S g} {open_run
 run_too_long {g = g} {old = old} {open_run = open_run} {xs = xs} ended most is less full refused same =
     let bytes = bytes_of xs in
     let next = drop_more bytes most 0 (omega (arith, less, prefix_len-le-length is_operand_byte bytes)) in
-    stop_takes refused same (omega (arith, less, within xs)) (grind arith) (λ spared. own_spares refl)
-    (λ h following between over.
+    stop_takes refused same (omega (arith, less, within xs)) (grind arith) (λ spared. own_spares refl) (λ h following between over.
     operands_long g old.sink (has_space old open_run is h between xs following most (omega (arith, less)) (omega (arith, full))) _ _ (ap (λ (bs : List ℕ). bs ++ bytes_of following) next)
     (prefix_len_passes is_operand_byte bytes most 0 less) (omega (arith, full, counted old open_run is h)))
 
@@ -139,8 +138,7 @@ pub run_lacks : {S : Type 0} {g : Ghosts S} {old new : Machine S g} {open_run : 
 run_lacks {xs = []} ended is some short refused same full = absurd (omega (arith, some))
 run_lacks {g = g} {old = old} {open_run = open_run} {xs = x ∷ xs} ended is some short refused same full =
     let word = prefix_len_passes is_operand_byte (x.byte ∷ bytes_of xs) 0 0 some in
-    stop_takes refused same (omega arith) (grind arith) (λ spared _. full spared.0)
-    (λ h following between over.
+    stop_takes refused same (omega arith) (grind arith) (λ spared _. full spared.0) (λ h following between over.
     stops_now refl (lacks g old.sink (with_machine h old) x _ [] (inl word) (inr (refl, inl (open_run, between, is, word)))
     (λ known s o pending k. word_joins between is k word (omega (arith, some, short, counted old open_run is h)))))
 
@@ -177,19 +175,14 @@ module _ {S : Type 0} {g : Ghosts S} {mid new : Machine S g} {xs : List Placed} 
   -- It is refused, or breaks.
   pub run_stops : {failed : Machine S g} {r : Refusal} → FailsRun mid failed r → Refuses failed new r → Takes mid new xs ended 0 Stop
   run_stops (stopped, tells, spares) refuses =
-      stop_takes refuses.is refuses.sink (omega arith) tells spares
-      (λ h following between known.
+      stop_takes refuses.is refuses.sink (omega arith) tells spares (λ h following between known.
       let next = over following known in
       let (x, ys, left, byte, others) = first_of (xs ++ following) next.byte next.rest next.is in
       stops_now left (stops_run (ap is_operand_byte byte ∙ next.other) (stopped h between)))
 
 -- the opcode's rule doesn't lack memory
 pub run_spares : {S : Type 0} {g : Ghosts S} (old : Machine S g) (run : List ℕ) (fault : DrawFault) → (fault ≡ DrawFault.Memory → (vec_capacity old.scratch < length run) ⊎ WantsFor g old.sink) → length run ≤ run_limit → IsSpared old → draw_fault fault ≢ Memory
-run_spares old run DrawFault.Memory lacking short spared is = elim (lacking refl) [
-  | inl few ↦ absurd (omega (arith, few, short, spared.0.1))
-  | inr wanted ↦ spared.1 wanted.0 wanted.1
-]
-run_spares old run _ lacking short spared is = cc
+run_spares old run fault h k e is = grind arith
 
 -- The effect of an opcode on a machine without an open run.
 
@@ -224,8 +217,7 @@ module _ {S : Type 0} {g : Ghosts S} {old : Machine S g} {op : Opcode} (x : Plac
   whole_leads : (new : Machine S g) (drawn : RuleResult) → LeftBy old new drawn.work old.lexer → Drew g (rule old.work op (operand_words run)) old.sink drawn new.sink → TookMore g →
       LeadsOn g old.sink (with_machine h old) new.sink (state_after_request (with_machine h new) (clear_request_if drawn.clears)) (take (1 + length run) (x ∷ all)) (bytes_of (drop (1 + length run) (x ∷ all)))
   whole_leads new drawn left drew more =
-      leads_after (x ∷ all) 1 (run_opened start (bytes_of all) refl refl) (length run)
-      (operands_act g old.sink space more whole.over (record {
+      leads_after (x ∷ all) 1 (run_opened start (bytes_of all) refl refl) (length run) (operands_act g old.sink space more whole.over (record {
         open_run = record { op = op; place = x.place };
         between = between;
         is = refl;
@@ -239,8 +231,7 @@ module _ {S : Type 0} {g : Ghosts S} {old : Machine S g} {op : Opcode} (x : Plac
   stops : (u : S) (fault : DrawFault) → DrawsBy g.took g.broke g.failed (rule old.work op (operand_words run)) old.sink u fault (draws.draw_cause fault) →
       Stops g old.sink (with_machine h old) (x ∷ all) (1 + length run) u (refusal (draw_fault fault) x.place)
   stops u fault drew =
-      stops_after (x ∷ all) 1 (run_opened start (bytes_of all) refl refl) (length run)
-      (operands_stop g old.sink space whole.over (record {
+      stops_after (x ∷ all) 1 (run_opened start (bytes_of all) refl refl) (length run) (operands_stop g old.sink space whole.over (record {
         open_run = record { op = op; place = x.place };
         between = between;
         is = refl;
@@ -256,15 +247,13 @@ outcome_of false count = CodeOutcome.Acted count
 
 asks_codes : {S : Type 0} {g : Ghosts S} {old new : Machine S g} {bytes : List ℕ} {ended : Bool} {count : ℕ} (clears : Bool) → (0 < count) × (count ≤ length bytes) → new.open_run ≡ old.open_run →
     ((x : Placed) (ys : List Placed) → bytes ≡ x.byte ∷ bytes_of ys → Takes old new (x ∷ ys) ended count (clear_request_if clears)) → Codes old new bytes ended (outcome_of clears count)
-asks_codes true few closed takes = record { within = few; closed = closed; by = takes }
-asks_codes false few closed takes = record { within = few; closed = closed; by = takes }
+asks_codes clears h k e = grind arith
 
 module _ {S : Type 0} {g : Ghosts S} {old : Machine S g} {op : Opcode} {bytes : List ℕ} {ended : Bool} {run : List ℕ} (r : RunsWhole old op bytes ended run) where
   -- The opcode acts on its run.
   pub opcode_acts : {new : Machine S g} (drawn : RuleResult) → LeftBy old new drawn.work old.lexer → Drew g (rule old.work op (operand_words run)) old.sink drawn new.sink → IsLive new → TookMore g → WantsMore g → Codes old new bytes ended (outcome_of drawn.clears (length run + 1))
   opcode_acts {new} drawn left drew live more wants =
-      asks_codes drawn.clears (omega arith, run_within r) (left.closed ∙ sym left.before)
-      (λ x ys is.
+      asks_codes drawn.clears (omega arith, run_within r) (left.closed ∙ sym left.before) (λ x ys is.
       let one : length run + 1 ≡ 1 + length run = omega arith in
       asks_takes drawn.clears (works_on _ left.kept wants drew.took drew.clear live) (omega (arith, run_within r, ap length is, length-map ys (λ (x : Placed). x.byte)))
       (λ h following between over. rw one (whole_leads x ys (rw is at r) h following between over new drawn left drew more)))

@@ -1,5 +1,6 @@
-use Rattle.nap_reader.proofs.Common.{AllCharacters, BodyFront, Bool, CharSet, Code, CodeSet, CodeSets, Fault, IsGraphic, IsMade, Kind, LexerState, List, None, Opcode, Option, Some, Spells, Step, Steps, [], after_control0, arith, at_escape, body_front, code_is_spelled, code_ranges, cond, control0_rows, control1_rows, ended, eqb, eqb-true, false, false≢true, is_fill, kind_of, le-leb, length, length-take-le, lt-ltb, ne_eqb, one_byte_longer, opcode_rows, refl, refused, row_of, set_at, stores, suc, take, true, unfinished, ℕ, ⊤, ◌++◌, ◌+◌, ◌-◌, ◌<◌, ◌∷◌, ◌≡◌, ◌≤◌}
+use Rattle.nap_reader.proofs.Common.{AllCharacters, AreCharacters, BodyFront, Bool, CharSet, Code, CodeSets, Fault, IsGraphic, IsMade, Kind, LexerState, List, Opcode, Option, Some, Spells, Step, Steps, [], after_control0, arith, at_escape, body_front, code_is_spelled, code_ranges, cond, control0_rows, control1_rows, ended, eqb, eqb-true, false, is_fill, kind_of, length, length-take-le, ne_eqb, one_byte_longer, opcode_rows, refl, refused, row_of, stores, suc, take, true, unfinished, ℕ, ⊤, ◌++◌, ◌+◌, ◌-◌, ◌<◌, ◌∷◌, ◌≡◌, ◌≤◌}
 use Rattle.nap_codes.specs.Tables.{fills}
+use Rattle.nap_reader.specs.Names.{IsCharacter}
 use Rattle.nap_codes.specs.declared.control.Row.{Row}
 use Rattle.nap_codes.specs.declared.control.Row.TheVariants.{Whole}
 use Rattle.nap_codes.specs.Front as codes
@@ -58,31 +59,14 @@ escape_unfinished sets = refl
 pub escape_steps : (old : LexerState) (step : Step) (new : LexerState) → old.half ≡ [] → Steps old 27 step new → new ≡ record { sets = old.sets; half = 27 ∷ [] }
 escape_steps old step new none h = let k = rw (none, escape_unfinished old.sets) at h in k.1
 
--- The codes of one byte of the set in GL.
-
-control0_below : (byte : ℕ) (row : Row) → row_of control0_rows byte ≡ Some row → byte < 0x20
-unfolding control0_rows
-control0_below byte row is = row_found (λ key _. key < 0x20) control0_rows byte row (omega arith) is
-
-graphic_row : (byte : ℕ) → 0x20 ≤ byte → row_of control0_rows byte ≡ None
-graphic_row byte from = at (row_of control0_rows byte) refl
-  where
-    at : (row : Option Row) → row_of control0_rows byte ≡ row → row_of control0_rows byte ≡ None
-    at None is = is
-    at (Some row) is = absurd (omega (arith, control0_below byte row is, from))
-
-pub graphic_front : (sets : CodeSets) (set : CodeSet) (byte : ℕ) (c : Code) → set_at sets sets.gl ≡ set → IsGraphic byte → codes.non_pdi_code set byte ≡ Some c → (rest : List ℕ) → codes.front sets (byte ∷ rest) ≡ codes.complete c 1 sets
-unfolding codes.front codes.control0_front codes.gl_front
-graphic_front sets set byte c is graphic named rest = rw (graphic_row byte graphic.0, le-leb 0x20 byte graphic.0, lt-ltb byte 0x80 graphic.1, is, named) refl
-
-pub set_characters : (sets : CodeSets) (set : CodeSet) (chars : CharSet) → set_at sets sets.gl ≡ set → ((byte : ℕ) → codes.non_pdi_code set byte ≡ Some (Code.Char chars byte)) → AllCharacters sets chars
-set_characters sets set chars is named byte graphic = graphic_front sets set byte (Code.Char chars byte) is graphic (named byte) []
+-- each byte from 20 to 7F is a character of this set, so no code is half read
+pub are_characters : {lexer : LexerState} {set : CharSet} → ((b : ℕ) → IsGraphic b → IsCharacter lexer b set) → AreCharacters lexer set
+are_characters chars = record { rested = (chars 0x20 (omega arith, omega arith)).0; chars = λ b graphic. (chars b graphic).1 }
 
 -- The controls without effect.
 
 fill_row : (row : Option Row) → fills row ≡ true → row ≡ Some (Whole Code.Fill)
-fill_row (Some (Whole Code.Fill)) is = refl
-fill_row _ is = let bad : false ≡ true = is in absurd (false≢true bad)
+fill_row row h = grind arith
 
 shift_rows : (row_of control0_rows 0x0E ≡ Some (Whole Code.Shifted)) × (row_of control0_rows 0x0F ≡ Some (Whole Code.Shifted))
 unfolding row_of control0_rows
@@ -91,9 +75,7 @@ shift_rows = (refl, refl)
 -- they change no code set
 fill_after : (sets : CodeSets) (byte : ℕ) → row_of control0_rows byte ≡ Some (Whole Code.Fill) → after_control0 sets byte ≡ sets
 unfolding after_control0
-fill_after sets byte row =
-    let (out, in_) = shift_rows in
-    rw (ne_eqb byte 0x0E (λ is. let bad : ⊥ = cc in bad), ne_eqb byte 0x0F (λ is. let bad : ⊥ = cc in bad)) refl
+fill_after sets byte row = grind (arith, shift_rows, ne_eqb)
 
 pub fill_front : (sets : CodeSets) (byte : ℕ) → is_fill byte ≡ true → codes.front sets (byte ∷ []) ≡ codes.complete Code.Fill 1 sets
 unfolding codes.front codes.control0_front
@@ -129,9 +111,9 @@ body_front-Settled space (byte ∷ bytes) more = let further = body_front-Settle
 
 -- a code that acts has parameters in range, and so has the name of a macro
 abbrev pub KindMade : Kind → Type 0
-KindMade (Kind.Acts c) = IsMade c
-KindMade (Kind.Calls name) = IsGraphic name
-KindMade (Kind.Binds name show) = IsGraphic name
+KindMade (Kind.acts c) = IsMade c
+KindMade (Kind.calls name) = IsGraphic name
+KindMade (Kind.binds name show) = IsGraphic name
 KindMade _ = ⊤
 
 -- so has the code at a front
@@ -142,9 +124,9 @@ pub front_kind_made : (sets : CodeSets) (xs : List ℕ) (c : Code) (n : ℕ) (af
 front_kind_made sets xs c n after e = let range = code_ranges sets xs c n after e in grind arith
 
 -- the code that defines a macro
-pub binds_code : (c : Code) (name : ℕ) (show : Bool) → kind_of c ≡ Kind.Binds name show → c ≡ Code.DefMacro name show
+pub binds_code : (c : Code) (name : ℕ) (show : Bool) → kind_of c ≡ Kind.binds name show → c ≡ Code.DefMacro name show
 binds_code c name show e = grind arith
 
 -- a code that acts is itself what acts
-pub acts_itself : (c acting : Code) → kind_of c ≡ Kind.Acts acting → kind_of c ≡ Kind.Acts c
+pub acts_itself : (c acting : Code) → kind_of c ≡ Kind.acts acting → kind_of c ≡ Kind.acts c
 acts_itself c acting e = grind arith

@@ -1,4 +1,4 @@
-use Rattle.nap_reader.proofs.Common.{Acted, ActsRun, All, All-tail, ArePending, Breaks, BreaksHere, Budget, CodeFault, Continues, Entry, Fault, Ghosts, IsOver, IsRefused, LacksOwn, LeadsOn, LeadsThrough, List, Machine, Memory, None, Outcome, Passes, Placed, ReadingState, Refusal, RunAt, Some, Stops, StopsByte, StopsRun, [], after_charge, after_run, all_at, ap, append-nil, append_assoc, arith, at_byte, bytes_of, cause_of, code_fault, false, get_or_append_left, in_run, inl, inr, is_operand, kept_list, length, length-append, refl, refusal, shown_front, stream, stream_front, subst, sym, true, ℕ, ◌++◌, ◌<◌, ◌∙◌, ◌∷◌, ◌≡◌, ◌≤◌, ◌⊎◌}
+use Rattle.nap_reader.proofs.Common.{Acted, ActsRun, All, All-drop, All-take, ArePending, Breaks, BreaksHere, Budget, CodeFault, Continues, Entry, Fault, Ghosts, IsOver, IsRefused, LacksOwn, LeadsOn, LeadsThrough, List, Machine, Memory, None, Outcome, Passes, Placed, ReadingState, Refusal, RunAt, Some, Stops, StopsByte, StopsRun, [], after_charge, after_run, all_at, ap, append-nil, append_assoc, arith, at_byte, bytes_of, cause_of, code_fault, drop-append_seam, false, in_run, inl, inr, is_operand, kept_list, length, length-append, refl, refusal, shown_front, stream, stream_front, subst, sym, take-append_seam, true, ℕ, ◌++◌, ◌<◌, ◌∙◌, ◌∷◌, ◌≡◌, ◌≤◌, ◌⊎◌}
 use Rattle.nap_reader.proofs.ReadingLemmas.{TookMore, leads_budget, leads_shown, leads_to_fault, over, pays, run_past}
 
 pub no_some : {A : Type 0} {x : A} → Some x ≡ None → ⊥
@@ -17,8 +17,7 @@ breaks_here closed breaks = grind arith
 -- The opcode of the open run acts, and the byte that ended the run is still to be read.
 pub passes_run : {S T : Type 0} {g : Ghosts S} {g' : Ghosts T} {t u : S} {h h' : ReadingState} {x : Placed} {s v w : T} {o : Outcome} {pending : List Placed} → TookMore g' → (acts : ActsRun g t h u h') → is_operand x ≡ false → g'.took v acts.drawn.entries w → (g'.failed v ≡ false → g'.failed w ≡ false) →
     Continues g' s o v h (x ∷ pending) → Continues g' s o w h' (x ∷ pending)
-passes_run {g' = g'} {x = x} {s = s} {w = w} {o = o} {pending = pending} more acts other took clear k =
-    subst (λ (h : ReadingState). Continues g' s o w h (x ∷ pending)) (sym acts.holds) (pays (run_past acts.between acts.is k other acts.drawn acts.by) more took clear)
+passes_run {g' = g'} {x = x} {s = s} {w = w} {o = o} {pending = pending} more acts other took clear k = grind (arith, pays, run_past)
 
 -- The opcode of the open run is refused, or breaks.
 pub stops_run : {S : Type 0} {g : Ghosts S} {t : S} {h : ReadingState} {x : Placed} {u : S} {r : Refusal} → is_operand x ≡ false → StopsRun g t h u r → StopsByte g t [] h x u r
@@ -66,11 +65,10 @@ IsAt n x = x.place ≡ n
 
 -- a property of all bytes of a list, for its prefix and for the rest
 pub all_prefix : {X : Type 0} (P : X → Type 0) (xs ys : List X) → All P (xs ++ ys) → All P xs
-all_prefix P xs ys all = λ i d less. subst P (get_or_append_left xs ys d i less) (all i d (omega (arith, less, length-append xs ys)))
+all_prefix P xs ys all = rw take-append_seam at (All-take P (length xs) (xs ++ ys) all)
 
 pub all_rest : (n : ℕ) (xs ys : List Placed) → All (IsAt n) (xs ++ ys) → All (IsAt n) ys
-all_rest n [] ys all = all
-all_rest n (x ∷ xs) ys all = all_rest n xs ys (All-tail (IsAt n) x (xs ++ ys) all)
+all_rest n xs ys all = rw drop-append_seam at (All-drop (IsAt n) (length xs) (xs ++ ys) all)
 
 pub acted_then : {S : Type 0} {g : Ghosts S} {t : S} {h : ReadingState} {u : S} {h' : ReadingState} {v : S} {h'' : ReadingState} {next : List ℕ} → Acted g t h u h' next → Acted g u h' v h'' next → Acted g t h v h'' next
 acted_then first then = record {
@@ -94,8 +92,7 @@ module _ {S : Type 0} {g : Ghosts S} {t : S} {h : ReadingState} {u : S} {h' : Re
         run = λ n all before.
             then.run n (all_rest n xs (x ∷ ys) all) (first.acted.run n (c.run n (all_prefix (IsAt n) xs (x ∷ ys) all) before));
         passes = λ s o pending k.
-            then.passes s o pending
-            (first.acted.passes x rest is s o (ys ++ pending)
+            then.passes s o pending (first.acted.passes x rest is s o (ys ++ pending)
             (c.passes s o ((x ∷ ys) ++ pending) (subst (Continues g s o t h) (append_assoc xs (x ∷ ys) pending) k)));
         none = λ none. absurd (omega (arith, ap length none, length-append xs (x ∷ ys)));
       }

@@ -7,8 +7,7 @@ use Rattle.nap_reader.proofs.PieceLemmas.{acts_before, broken_amid, leads_past, 
 module _ {S : Type 0} {g : Ghosts S} {old : Reader S g} {piece : List ℕ} {at place : ℕ} {t : S} {owed : List Entry} {h : ReadingState} (new : Reader S g) (left : left_of new ≡ h.machine.left) (laws : Lawful g) where
   -- what is known with the byte that called or presented a body
   known_amid : {frames : List Placed} (i : ℕ) → LeadsTo old piece (record { frames = frames; at = at; place = place }) t owed h → at ≡ i + 1 → (s : S) (p : List ℕ) → HasRead old s p → Owes g s (begun (budget_of old) ((p ++ take i piece) ++ get_or piece i 0 ∷ [])) t owed h frames
-  known_amid {frames} i leads last s p had_read =
-      subst (λ (q : List ℕ). Owes g s (begun (budget_of old) q) t owed h frames) (sym (taken_more p piece i (omega (arith, last, leads.within)) ∙ ap (λ (n : ℕ). p ++ take n piece) (sym last))) (leads.known s p had_read)
+  known_amid {frames} i leads last s p had_read = grind (arith, taken_more)
 
   -- The next byte is refused, or reading breaks with it.
   stops_byte : {x : Placed} {following : List Placed} {r : Refusal} (frames : List Placed) → LeadsTo old piece (record { frames = frames; at = at; place = place }) t owed h → frames ++ placed_from place (drop at piece) ≡ x ∷ following → StopsByte g t owed h x (sink_of new) r →

@@ -1,7 +1,8 @@
-use Rattle.nap_reader.proofs.Common.{All, All-map, Bool, Code, CodeSets, DrawFault, Entry, IsMade, IsWord, Kind, List, LongRun, Machine, None, Ok, Opcode, Option, Outcome, Placed, Refusal, Result, RuleResult, Some, StreamFront, Unfinished, Work, [], act, after_body, all_at, ap, append-nil, append_assoc, arith, begun, between, body_front_by, body_of, bound_front, bytes_of, carried_words, code_front, code_length, code_rule, code_stays, cond, continue, continue_by, drawn_front, drop, drop-append-le, drop_of_length-le, ends_of, eqb-false, eqb-true, false, front_by, get_or, get_or-take, half_read, in_body, is_operand, kind_of, length, length-append, length-drop, length-map, length-prefix_len, lt-ltb, ltb, ltb-false, ltb-true, map-append, nat_tests, open_run, opened_front, outcome, outcome_by_front, outcome_from, outcome_within, pause, paused, place_at, placed_from, prefix_len-append, prefix_len-le-length, prefix_len_passes, prepend, refl, refusal, refuse, refused_index, refused_stays, rule, run_front, run_length, run_limit, shown_front, steps_left, stream_front, subst, suc, sym, take, take-append-le, true, zero, ℕ, ⊤, ◌++◌, ◌+◌, ◌-◌, ◌<◌, ◌∙◌, ◌∷◌, ◌≡◌, ◌≤◌}
+use Rattle.nap_reader.proofs.Common.{All, All-map, Bool, Code, CodeSets, DrawFault, Entry, IsMade, IsWord, Kind, List, LongRun, Machine, None, Ok, Opcode, Option, Outcome, Placed, Refusal, Result, RuleResult, Some, StreamFront, Unfinished, Work, [], act, after_body, all_at, ap, append-nil, append_assoc, arith, begun, between, body_front_by, body_of, bound_front, bytes_of, carried_words, code_front, code_length, code_rule, code_stays, cond, continue, continue_by, drawn_front, drop, drop-append-le, drop_of_length-le, ends_of, eqb-false, eqb-true, false, front_by, half_read, in_body, is_operand, kind_of, length, length-append, length-drop, length-map, length-prefix_len, lt-ltb, ltb, ltb-false, ltb-true, map-append, nat_tests, open_run, opened_front, outcome, outcome_by_front, outcome_from, outcome_within, pause, paused, place_at, placed_from, prefix_len-append, prefix_len-le-length, prepend, refl, refusal, refuse, refused_index, refused_stays, rule, run_front, run_length, run_limit, shown_front, steps_left, stream_front, subst, suc, sym, take, take-append-le, true, zero, ℕ, ⊤, ◌++◌, ◌+◌, ◌-◌, ◌<◌, ◌∙◌, ◌∷◌, ◌≡◌, ◌≤◌}
 use Rattle.nap_codes.specs.Front as codes
 use Rattle.nap_reader.specs.Bodies as bodies
 use Rattle.nap_reader.specs.Course as course
+use Rattle.nap_reader.proofs.OperandLemmas.{prefix_all}
 use Rattle.nap_reader.proofs.SpelledLemmas.{KindMade, Settled, body_front-Settled, definition_length, front_kind_made}
 
 pub prepend-append : {M E F U B : Type 0} (ds es : List E) (o : course.OutcomeOf M E F U B) → prepend (ds ++ es) o ≡ prepend ds (prepend es o)
@@ -46,9 +47,7 @@ Fronts-cond_left b f g = grind arith
 
 -- the operand bytes of a prefix carry words
 run_words : (xs : List Placed) → All IsWord (carried_words (take (run_length xs) xs))
-run_words xs = All-map IsWord (λ (x : Placed). x.byte - 64) (take (run_length xs) xs) (λ i d less.
-    let few : i < run_length xs = omega (arith, less, length-prefix_len is_operand xs) in
-    rw (get_or-take (run_length xs) xs i d few) (word (get_or xs i d) (prefix_len_passes is_operand xs i d few)))
+run_words xs = All-map IsWord (λ (x : Placed). x.byte - 64) (take (run_length xs) xs) (prefix_all (λ x. IsWord (x.byte - 64)) is_operand xs (run_length xs) word (omega arith))
   where
     word : (x : Placed) → is_operand x ≡ true → IsWord (x.byte - 64)
     word x is = grind (arith, nat_tests)
@@ -96,12 +95,10 @@ ended_fronts m op place run (x ∷ xs) q k less words h =
 open_fronts : (m : Machine) (op : Opcode) (place : ℕ) (run more rest q : List Placed) {k : ℕ} → All IsWord (carried_words run) → length run ≤ length more →
     Fronts q m.work m.left k (run_front m op place run []) (run_front m op place more rest)
 open_fronts m op place run more rest q {k} words h =
-    Fronts-cond_left (ltb run_limit (length run))
-    (λ e.
+    Fronts-cond_left (ltb run_limit (length run)) (λ e.
     let long : ltb run_limit (length more) ≡ true = lt-ltb run_limit (length more) (let least = ltb-true run_limit (length run) e in omega arith) in
     let is : run_front m op place more rest ≡ course.refuse (refusal LongRun place) = rw long refl in
-    subst (Fronts q m.work m.left k (course.refuse (refusal LongRun place))) (sym is) refuses)
-    (λ _. pauses words)
+    subst (Fronts q m.work m.left k (course.refuse (refusal LongRun place))) (sym is) refuses) (λ _. pauses words)
 
 -- the run of an opcode, ended or still open
 opcode_fronts : (m : Machine) (op : Opcode) (place : ℕ) (xs q : List Placed) (k : ℕ) → length xs + steps_left m < k → Fronts q m.work m.left k (opened_front m op place xs) (opened_front m op place (xs ++ q))
@@ -110,7 +107,7 @@ opcode_fronts m op place xs q k h =
 
 -- the smallest number of bytes of a code of this kind
 abbrev least : Kind → ℕ
-least (Kind.Binds name show) = 2
+least (Kind.binds name show) = 2
 least _ = 1
 
 code_fronts : (m : Machine) (kind : Kind) (place : ℕ) (rest q : List Placed) (k : ℕ) → m.mode ≡ between → length rest + (least kind + m.left) ≤ k → KindMade kind →
@@ -121,12 +118,12 @@ code_fronts m kind place rest q k mode h made = at kind h made
     still = ap ends_of mode
 
     at : (kind : Kind) → length rest + (least kind + m.left) ≤ k → KindMade kind → Fronts q m.work m.left k (code_front m kind place rest) (code_front m kind place (rest ++ q))
-    at (Kind.Opens op) h made = opcode_fronts m op place rest q k (omega (arith, still))
-    at Kind.Strays h made = refuses
-    at Kind.AddsNothing h made = acts refl (omega (arith, still)) (omega arith) puts_nothing
-    at (Kind.Acts c) h made = drawn_fronts m place rest q (code_rule m.work c) k (omega (arith, still)) (λ d is. by_code c d made is)
-    at (Kind.Calls name) h made = shown_fronts m place (body_of m.names name) rest q k (omega (arith, still))
-    at (Kind.Binds name show) h made =
+    at (Kind.opens op) h made = opcode_fronts m op place rest q k (omega (arith, still))
+    at Kind.strays h made = refuses
+    at Kind.adds_nothing h made = acts refl (omega (arith, still)) (omega arith) puts_nothing
+    at (Kind.acts c) h made = drawn_fronts m place rest q (code_rule m.work c) k (omega (arith, still)) (λ d is. by_code c d made is)
+    at (Kind.calls name) h made = shown_fronts m place (body_of m.names name) rest q k (omega (arith, still))
+    at (Kind.binds name show) h made =
         drawn_fronts (record m { mode = in_body name show }) place rest q (code_rule m.work (Code.DefMacro name show)) k (omega (arith, still))
         (λ d is. by_code (Code.DefMacro name show) d tt is)
 
@@ -245,7 +242,3 @@ outcome_from-left = outcome_holds (λ m xs o. o.machine.left ≤ m.left) (λ m x
 pub continue_first : (r : Option Refusal) (o : Outcome) (ys : List Placed) → (es : List Entry) × ((continue_by outcome_from r o ys).entries ≡ o.entries ++ es)
 continue_first (Some r) o ys = ([], sym (append-nil o.entries))
 continue_first None o ys = ((outcome_from o.machine (o.rest ++ ys)).entries, refl)
-
--- the entries of a list are a prefix of those of a longer one
-pub entries_first : (m : Machine) (xs ys : List Placed) → (es : List Entry) × ((outcome_from m (xs ++ ys)).entries ≡ (outcome_from m xs).entries ++ es)
-entries_first m xs ys = rw (outcome_from-append m xs ys) (continue_first (outcome_from m xs).refusal (outcome_from m xs) ys)

@@ -1,4 +1,4 @@
-use Rattle.nap_reader.proofs.Common.{Bool, Call, Calls, Clear, Define, DoesNothing, DrawFault, Entry, Fault, FaultMatchesSink, Ghosts, IsLive, IsOver, IsSpared, KeepsMemory, LeadsOn, LeadsThrough, Leaves, LexerState, List, Memory, NeverWants, None, Nothing, Ok, OpenRun, Option, Placed, ReadingState, Refusal, Request, Result, RuleResult, Sink, Some, Stop, Stops, StopsByte, Takes, TakesBy, TakesUnder, Work, Works, [], ap, arith, bytes_of, cause_of, clear_request_if, drop, drop-append-le, drop-drop, drop_more, false, false≢true, get_or, if◌then◌else◌, length, length-drop, memory, no_names, place_at, placed_by_step, refl, run_by, state_after_request, stream, subst, suc, sym, take, take-add, take-append-drop, take_all, true, with_machine, zero, ℕ, ◌*◌, ◌++◌, ◌+◌, ◌-◌, ◌<◌, ◌∙◌, ◌∷◌, ◌≡◌, ◌≢◌, ◌≤◌}
+use Rattle.nap_reader.proofs.Common.{Bool, Call, Calls, Define, DoesNothing, DrawFault, Entry, Fault, FaultMatchesSink, Ghosts, IsLive, IsOver, IsSpared, KeepsMemory, LeadsOn, LeadsThrough, Leaves, LexerState, List, Memory, NeverWants, None, Nothing, Ok, OpenRun, Option, Placed, ReadingState, Refusal, Request, Result, RuleResult, Sink, Some, Stop, Stops, StopsByte, Takes, TakesBy, TakesUnder, Work, Works, [], ap, arith, bytes_of, cause_of, clear_request_if, drop, drop-append-le, drop-drop, drop_more, false, false≢true, get_or, if◌then◌else◌, length, length-drop, memory, no_names, place_at, placed_by_step, refl, run_by, state_after_request, stream, subst, suc, sym, take, take-add, take-append-drop, true, with_machine, zero, ℕ, ◌*◌, ◌++◌, ◌+◌, ◌<◌, ◌∙◌, ◌∷◌, ◌≡◌, ◌≢◌, ◌≤◌}
 use Rattle.nap_reader.proofs.Base.{WantsMore, bytes_of-append, bytes_of-placed_by_step, leads_nowhere, leads_then, stops_then}
 use Rattle.nap_reader.specs.declared.machine.Machine.{Machine}
 
@@ -65,27 +65,11 @@ works_on {g = g} {old = old} {new = new} list kept more took clear live = record
 -- the machine stops
 pub stop_takes : {S : Type 0} {g : Ghosts S} {old new : Machine S g} {bytes : List Placed} {ended : Bool} {count : ℕ} {r : Refusal} {u : S} → new.refusal ≡ Some r → new.sink ≡ u → count ≤ length bytes → FaultMatchesSink g old.sink u r.fault → (IsSpared old → r.fault ≢ Memory) →
     ((h : ReadingState) (following : List Placed) → h.open_body ≡ None → (ended ≡ true → IsOver (bytes_of following)) → Stops g old.sink (with_machine h old) (bytes ++ following) count u r) → Takes old new bytes ended count Stop
-stop_takes {r = r} is same few tells spares stops = record {
-  within = few;
-  leaves = record { why = r; is = is; tells = rw same tells; spares = spares };
-  by = λ h following between over. (r, is, rw same (stops h following between over));
-}
-
-pub works_then : {S : Type 0} {g : Ghosts S} {old mid new : Machine S g} → Works old mid → Works mid new → Works old new
-works_then first later = record { live = later.live; clear = λ clear. later.clear (first.clear clear); spares = λ spared. later.spares (first.spares spared) }
+stop_takes {r = r} is same few tells spares stops = grind arith
 
 -- the machine continues from a state
 pub leaves_from : {S : Type 0} {g : Ghosts S} (old mid new : Machine S g) (request : Request) → Works old mid → Leaves mid new request → Leaves old new request
-leaves_from old mid new Stop works leaves = record {
-  why = leaves.why;
-  is = leaves.is;
-  tells = (leaves.tells.0, λ clear failed. leaves.tells.1 (works.clear clear) failed);
-  spares = λ spared. leaves.spares (works.spares spared);
-}
-leaves_from old mid new Nothing works leaves = works_then works leaves
-leaves_from old mid new Clear works leaves = works_then works leaves
-leaves_from old mid new (Call name) works leaves = works_then works leaves
-leaves_from old mid new (Define name show) works leaves = works_then works leaves
+leaves_from old mid new request h k = grind arith
 
 -- the code may request that all names are unbound
 pub asks_takes : {S : Type 0} {g : Ghosts S} {old new : Machine S g} {xs : List Placed} {ended : Bool} {count : ℕ} (clears : Bool) → Works old new → count ≤ length xs →
@@ -100,8 +84,8 @@ pub one_takes : {S : Type 0} {g : Ghosts S} {old new : Machine S g} {x : Placed}
 one_takes leaves by = record { within = omega arith; leaves = leaves; by = λ h following between over. by h following between }
 
 -- the bytes of a slice from one on
-pub next_in_slice : (place step : ℕ) (bytes : List ℕ) (at : ℕ) → at < length bytes → take (length bytes - at) (drop at bytes) ≡ get_or bytes at 0 ∷ bytes_of (placed_by_step (place + step * (at + 1)) step (drop (at + 1) bytes))
-next_in_slice place step bytes at less = search (arith, take_all, length-drop, drop_more, bytes_of-placed_by_step) steps 100000
+pub next_in_slice : (place step : ℕ) (bytes : List ℕ) (at : ℕ) → at < length bytes → drop at bytes ≡ get_or bytes at 0 ∷ bytes_of (placed_by_step (place + step * (at + 1)) step (drop (at + 1) bytes))
+next_in_slice place step bytes at less = rw bytes_of-placed_by_step (drop_more bytes at 0 less)
 
 -- The bytes that a machine consumes, and then some of those after them.
 
@@ -161,11 +145,7 @@ module _ {S : Type 0} {g : Ghosts S} {t : S} {h : ReadingState} {u : S} {h' : Re
 
 -- The machine consumed none so far, and is unchanged.
 pub takes_none : {S : Type 0} {g : Ghosts S} {old mid : Machine S g} {xs : List Placed} {ended : Bool} → LeftBy old mid old.work old.lexer → mid.sink ≡ old.sink → IsLive mid → Takes old mid xs ended 0 Nothing
-takes_none {g = g} {xs = xs} left same live = record {
-  within = omega arith;
-  leaves = works_still left.kept same live;
-  by = λ h following between over. leads_nowhere (bytes_of (xs ++ following)) same (left_is left h);
-}
+takes_none {g = g} {xs = xs} left same live = search (arith, works_still, leads_nowhere, left_is) steps 100000
 
 -- What a machine does whatever names are bound, it does where these are.
 pub takes_under : {S : Type 0} {g : Ghosts S} {names : List (List ℕ)} {old new : Machine S g} {xs : List Placed} {ended : Bool} {count : ℕ} {request : Request} → Takes old new xs ended count request → TakesUnder names old new xs ended count request

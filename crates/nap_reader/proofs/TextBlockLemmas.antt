@@ -26,13 +26,10 @@ module _ (n : ℕ) (some : 0 < n) (fits : n < 2 ^ 64) where
   low_bit i less = sym (bit_at_cat_low high (low + 1) (n % 2 ^ (low + 1)) i less) ∙ ap (λ m. bit_at m i) whole
 
   by_place : (i : ℕ) → i < low + 1 → (i < low) ⊎ (low ≤ i) → bit_at n i ≡ bit_at (2 ^ low) i
-  by_place i less (inr upper) = let same : i ≡ low = omega arith in rw same (lowest.1 ∙ sym (bit_at-pow_same low))
-  by_place i less (inl lower) = lowest.2 i lower ∙ sym (bit_at-pow_other low i (λ same. omega (arith, same, lower)))
+  by_place i h k = grind (arith, lowest, bit_at-pow_same, bit_at-pow_other)
 
   lowest_is : n % 2 ^ (low + 1) ≡ 2 ^ low
-  lowest_is =
-      same_from_bits_below (low + 1) (n % 2 ^ (low + 1)) (2 ^ low) (mod_below n (2 ^ (low + 1)) (pow_pos (low + 1))) low_fits
-      (λ i less. low_bit i less ∙ by_place i less (cases_lt i low))
+  lowest_is = search (arith, same_from_bits_below, mod_below, pow_pos, low_fits, low_bit, by_place, cases_lt) steps 100000
 
   split : high * 2 ^ (low + 1) + 2 ^ low ≡ n
   split = ap (λ m. high * 2 ^ (low + 1) + m) (sym lowest_is) ∙ whole
@@ -40,10 +37,8 @@ module _ (n : ℕ) (some : 0 < n) (fits : n < 2 ^ 64) where
   cleared : bit_and n (n - 1) ≡ high * 2 ^ (low + 1)
   cleared =
       let one_less : n - 1 ≡ high * 2 ^ (low + 1) + (2 ^ low - 1) = omega (arith, split, pow_pos low) in
-      ap₂ bit_and (sym split) one_less
-      ∙ and_block (low + 1) high high (2 ^ low) (2 ^ low - 1) low_fits (omega (arith, low_fits))
-      ∙ ap₂ (λ a b. a * 2 ^ (low + 1) + b) (and_self high) (and_mask (2 ^ low) low ∙ mod_self (2 ^ low))
-      ∙ omega arith
+      ap₂ bit_and (sym split) one_less ∙ and_block (low + 1) high high (2 ^ low) (2 ^ low - 1) low_fits (omega (arith, low_fits))
+      ∙ ap₂ (λ a b. a * 2 ^ (low + 1) + b) (and_self high) (and_mask (2 ^ low) low ∙ mod_self (2 ^ low)) ∙ omega arith
 
   -- fewer bits are left
   pub cleared_less : bit_and n (n - 1) < n
@@ -104,9 +99,7 @@ module _ (piece : List ℕ) (at : ℕ) (within : at + 32 ≤ length piece) where
 pub all_pass_first : (p : ℕ → Bool) (xs : List ℕ) (n : ℕ) → n ≤ length xs → ((k : ℕ) → k < n → p (get_or xs k 0) ≡ true) → prefix_len p xs ≡ n + prefix_len p (drop n xs)
 all_pass_first p xs zero few pass = omega arith
 all_pass_first p [] (suc n) few pass = absurd (omega arith)
-all_pass_first p (x ∷ xs) (suc n) few pass =
-    let rest = all_pass_first p xs n (omega arith) (λ k less. pass (suc k) (omega arith)) in
-    rw (pass 0 (omega arith)) (omega (arith, rest))
+all_pass_first p (x ∷ xs) (suc n) few pass = rw (pass 0 (omega arith)) (omega (arith, (all_pass_first p xs n (omega arith) (λ k less. pass (suc k) (omega arith)))))
 
 -- a byte from 20 to 7F is of a text
 of_range : (b : ℕ) → is_from 32 b ≡ true → is_of_text b ≡ true
@@ -147,25 +140,13 @@ module _ {piece : List ℕ} {at rest : ℕ} (within : at + 32 ≤ length piece) 
     effector_passes b is = grind arith
 
     pub ends_at : is_some (format_effector (get_or piece (at + next) 0)) ≡ false → EndsAt piece at (at + next)
-    ends_at other =
-        let counted : prefix_len is_of_text (drop at piece) ≡ next =
-        prefix_len_is is_of_text (drop at piece) next 0 (omega (arith, length-drop at piece, within, next_within))
-        (λ i less. ap is_of_text (get_or-drop at piece i 0) ∙ k.passed i (omega (arith, less, next_within)) ((lowest rest some fits).2 i less))
-        (λ _. ap is_of_text (get_or-drop at piece next 0) ∙ neither (get_or piece (at + next) 0) other next_other) in
-        (ap (λ n. at + n) counted, omega (arith, within, next_within))
+    ends_at other = grind (arith, prefix_len_is, length-drop, next_within, get_or-drop, lowest, fits, neither, next_other)
 
     past_low : (i : ℕ) → i < 32 → bit_at (bit_and rest (rest - 1)) i ≡ 0 → is_some (format_effector (get_or piece (at + next) 0)) ≡ true → (i < next) ⊎ (next ≤ i) → (next < i) ⊎ (i ≤ next) → is_of_text (get_or piece (at + i) 0) ≡ true
-    past_low i less none is (inl lower) _ = k.passed i less ((lowest rest some fits).2 i lower)
-    past_low i less none is (inr from) (inr to) = let same : i ≡ next = omega arith in rw same (effector_passes (get_or piece (at + next) 0) is)
-    past_low i less none is (inr from) (inl higher) = k.passed i less (sym (cleared_high rest some fits i higher) ∙ none)
+    past_low i less none is before after = grind (arith, lowest, fits, effector_passes, cleared_high)
 
     still_other : (i : ℕ) → bit_at (bit_and rest (rest - 1)) i ≡ 1 → (i < next + 1) ⊎ (next + 1 ≤ i) → (i < 32) × (is_from 32 (get_or piece (at + i) 0) ≡ false)
-    still_other i one (inl lower) = let bad : 0 ≡ 1 = sym (cleared_low rest some fits i lower) ∙ one in absurd (omega (arith, bad))
-    still_other i one (inr higher) = k.others i (sym (cleared_high rest some fits i (omega arith)) ∙ one)
+    still_other i one which = grind (arith, cleared_low, fits, cleared_high)
 
     pub leaves_fewer : is_some (format_effector (get_or piece (at + next) 0)) ≡ true → LeavesOthers piece at (bit_and rest (rest - 1))
-    leaves_fewer is = record {
-      few = omega (arith, cleared_less rest some fits, k.few);
-      passed = λ i less none. past_low i less none is (cases_lt i next) (cases_lt next i);
-      others = λ i one. still_other i one (cases_lt i (next + 1));
-    }
+    leaves_fewer is = grind (arith, cleared_less, fits, past_low, cases_lt, still_other)

@@ -1,4 +1,4 @@
-use Rattle.nap_reader.proofs.Common.{All, All-cons, All-head, All-nil, All-tail, AllCharacters, CharSet, CodeSets, Entry, Ghosts, HaltsAfter, IsText, IsTextByte, Kind, List, Machine, None, Option, Outcome, Owes, Placed, ReadingState, SinkFault, Some, State, Stops, TakesSome, TextStep, [], after, ap, append-nil, append_assoc, ap₂, arith, at_byte, bytes_of, cause_of, code_as, code_front, draw_fault, drawn_front, drawn_text, drop, fault_of, format_effector, format_effector_front, get_or-append_seam, hand_of, inl, inr, kind_of, length, length-append, memory, place_at, refl, refusal, rule_result, sink_model_of, stream, subst, suc, sym, take, text_code, text_entry, typed_rule, walk, ℕ, ◌++◌, ◌+◌, ◌<◌, ◌∙◌, ◌∷◌, ◌≡◌, ◌≢◌}
+use Rattle.nap_reader.proofs.Common.{All, All-cons, All-head, All-nil, All-tail, AllCharacters, CharSet, CodeSets, Entry, Ghosts, HaltsAfter, IsText, IsTextByte, Kind, List, Machine, Option, Outcome, Owes, Placed, ReadingState, SinkFault, State, Stops, TakesSome, TextStep, [], after, ap, append-nil, append_assoc, ap₂, arith, at_byte, bytes_of, cause_of, code_as, code_front, draw_fault, drawn_front, drawn_text, drop, fault_of, format_effector, format_effector_front, get_or-append_seam, hand_of, inl, inr, kind_of, length, length-append, memory, place_at, refl, refusal, rule_result, sink_model_of, stream, subst, suc, sym, take, text_code, text_entry, typed_rule, walk, ℕ, ◌++◌, ◌+◌, ◌<◌, ◌∙◌, ◌∷◌, ◌≡◌, ◌≢◌}
 use Rattle.nap_reader.proofs.Base.{all_prefix, first_of, front_code, holds_nothing, is_between, is_half, leads_past, list_more, pays, split_bytes}
 use Rattle.nap_codes.specs.Front as codes
 use Rattle.nap_reader.proofs.TakingLemmas.{place_at-drop}
@@ -10,9 +10,8 @@ pub are_typed : (sets : CodeSets) (set : CharSet) → AllCharacters sets set →
 are_typed sets set are b is = search (arith, format_effector_front) steps 100000
 
 -- a character and a format effector act by their rule
-typed_acts : (step : Option TextStep) (set : CharSet) (b : ℕ) → kind_of (code_as step set b) ≡ Kind.Acts (code_as step set b)
-typed_acts (Some step) set b = refl
-typed_acts None set b = refl
+typed_acts : (step : Option TextStep) (set : CharSet) (b : ℕ) → kind_of (code_as step set b) ≡ Kind.acts (code_as step set b)
+typed_acts step set b = grind arith
 
 -- the entry of a byte of a text in this state
 abbrev pub typed_in : State → CharSet → ℕ → Entry
@@ -42,8 +41,7 @@ module _ {S : Type 0} {g : Ghosts S} {s : S} {o : Outcome} {t : S} (set : CharSe
 
   pub text_past : {owed : List Entry} {h : ReadingState} {q : List ℕ} (xs pending : List Placed) → IsText h set q → bytes_of xs ≡ q → Owes g s o t owed h (xs ++ pending) →
       Owes g s o t (owed ++ drawn_text h.machine.work.state set q) (record h { machine = with_text h.machine set q }) pending
-  text_past {owed} {h} xs pending is same k =
-      subst (λ (q : List ℕ). Owes g s o t (owed ++ drawn_text h.machine.work.state set q) (record h { machine = with_text h.machine set q }) pending) same (chars_past xs pending (subst (IsText h set) (sym same) is) k)
+  text_past {owed} {h} xs pending is same k = grind (arith, chars_past)
 
 -- The character at which the put of a text halts.
 

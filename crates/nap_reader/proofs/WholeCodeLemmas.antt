@@ -1,9 +1,9 @@
-use Rattle.nap_reader.proofs.Common.{Bool, Call, Code, CodeOutcome, CodeSets, Codes, Define, DrawFault, Entry, FaultMatchesSink, Ghosts, IsLive, IsNextOf, Kind, LeadsOn, Leaves, LexerState, List, None, Nothing, Placed, ReadingState, Request, Some, Stop, Takes, TakesBy, [], add-zero, ap, append-nil, append_assoc, arith, bytes_of, code_length, code_rule, code_taken, cond, draw_fault, drop, drop-append-le, drop_more, earlier_unfinished, false, get_or, is_fill, kind_of, length, length-append, length-drop, length-map, length-take-le, next_of, next_of_code, place_at, placed_at, prefix_len, prefix_len-le-length, refl, refusal, sets_after, subst, suc, sym, take, take-append-add, take-append-drop, take-append-le, take-append_seam, take-map, take_more, true, with_machine, zero, ℕ, ◌++◌, ◌+◌, ◌-◌, ◌<◌, ◌∙◌, ◌∷◌, ◌≡◌, ◌≤◌}
-use Rattle.nap_reader.proofs.Base.{Fails, bytes_of-append, TookMore, WantsMore, escape_unfinished, fails_spare, fill_front, front_kind_made, leads_nowhere, leads_past, leads_then, stops_now}
+use Rattle.nap_reader.proofs.Common.{Bool, Call, Code, CodeOutcome, CodeSets, Codes, Define, DrawFault, Entry, FaultMatchesSink, Ghosts, IsLive, IsNextOf, Kind, LeadsOn, Leaves, LexerState, List, None, Nothing, Placed, ReadingState, Request, Some, Stop, Takes, TakesBy, [], add-zero, ap, append-nil, append_assoc, arith, bytes_of, code_length, code_rule, code_stays, code_taken, cond, draw_fault, drop, drop-append-le, drop_more, earlier_unfinished, false, get_or, is_fill, kind_of, length, length-append, length-drop, length-map, length-take-le, next_of, place_at, placed_at, prefix_len, prefix_len-le-length, refl, refusal, sets_after, slice_get, subst, suc, sym, take, take-append-add, take-append-drop, take-append-le, take-append_seam, take-map, take_more, true, with_machine, ℕ, ◌++◌, ◌+◌, ◌-◌, ◌<◌, ◌∙◌, ◌∷◌, ◌≡◌, ◌≤◌}
+use Rattle.nap_reader.proofs.Base.{Fails, bytes_of-append, TookMore, WantsMore, escape_unfinished, fails_spare, fill_front, first_byte, front_kind_made, leads_nowhere, leads_past, leads_then, stops_now}
 use Rattle.nap_codes.specs.declared.next_code.NextCode.{NextCode}
 use Rattle.nap_codes.specs.Front as codes
 use Rattle.nap_reader.specs.declared.machine.Machine.{Machine}
-use Rattle.nap_reader.proofs.CodesLemmas.{EndsCode, IsRuled, acts, binds, code_calls, drawn_at, drawn_by, ends, half_leads, leads_by, lexes_alone, nothing_takes, over, rested, ruled_breaks, ruled_leads}
+use Rattle.nap_reader.proofs.CodesLemmas.{EndsCode, IsRuled, acts, binds, code_calls, drawn_at, drawn_by, ends, half_leads, leads_by, lexes_alone, Lexes, over, rested, ruled_breaks, ruled_leads}
 use Rattle.nap_reader.proofs.TakingLemmas.{Drew, LeftBy, kept_as, left_is, place_at-drop, takes_after, takes_none, takes_then, works_on, works_still}
 
 -- Codes of several bytes that are all among the next bytes.
@@ -62,12 +62,7 @@ module _ {S : Type 0} {g : Ghosts S} {old : Machine S g} {xs : List Placed} {n :
       take-append-add half (bytes_of xs) (suc n) ∙ ap (λ (bs : List ℕ). half ++ bs) rest ∙ sym (append_assoc half early (last.byte ∷ []))
 
   ends_code : EndsCode old.lexer.sets (half ++ early) old.open_run last.byte c after
-  ends_code =
-      let count : length half + suc n ≡ length ((half ++ early) ++ last.byte ∷ []) = omega (arith, length-append (half ++ early) (last.byte ∷ []), length-append half early, length-early) in
-      record {
-        closed = k.closed;
-        whole = ap (codes.front old.lexer.sets) (sym code_bytes) ∙ code_taken old.lexer.sets (half ++ bytes_of xs) c (length half + suc n) after k.whole ∙ ap (λ (m : ℕ). codes.complete c m after) count;
-      }
+  ends_code = grind (arith, length-append, length-early, code_bytes, code_taken)
 
   -- the bytes before the last one are unfinished
   early_waits : (us vs : List ℕ) → early ≡ us ++ vs → codes.front old.lexer.sets (half ++ us) ≡ codes.unfinished
@@ -101,15 +96,14 @@ module _ {S : Type 0} {g : Ghosts S} {old : Machine S g} {xs : List Placed} {n :
   }
 
   -- A machine consumes a code that adds nothing.
-  pub whole_nothing : {new : Machine S g} {ended : Bool} {count : ℕ} → count ≡ n + 1 → kind_of c ≡ Kind.AddsNothing → LeftBy old new old.work (rested after) → new.sink ≡ old.sink → IsLive new → Takes old new xs ended count Nothing
+  pub whole_nothing : {new : Machine S g} {ended : Bool} {count : ℕ} → count ≡ n + 1 → kind_of c ≡ Kind.adds_nothing → LeftBy old new old.work (rested after) → new.sink ≡ old.sink → IsLive new → Takes old new xs ended count Nothing
   whole_nothing total kind left same live =
-      last_takes 1 (omega arith) total (works_still left.kept same live)
-      (λ h following between.
+      last_takes 1 (omega arith) total (works_still left.kept same live) (λ h following between.
       leads_by (bytes_of (others ++ following)) same (left_is left h) (omega arith) refl (λ n all before. before)
       (λ s o pending c'. leads_past c' [] (drawn_at (held h) after old.work) pending (over g old.sink between ends_code c' old.work) (ends g old.sink between ends_code kind c')))
 
   -- A machine consumes a call of a macro.
-  pub whole_call : {new : Machine S g} {ended : Bool} {count name : ℕ} → count ≡ n + 1 → kind_of c ≡ Kind.Calls name → LeftBy old new old.work (rested after) → new.sink ≡ old.sink → IsLive new → Takes old new xs ended count (Call name)
+  pub whole_call : {new : Machine S g} {ended : Bool} {count name : ℕ} → count ≡ n + 1 → kind_of c ≡ Kind.calls name → LeftBy old new old.work (rested after) → new.sink ≡ old.sink → IsLive new → Takes old new xs ended count (Call name)
   whole_call total kind left same live =
       last_takes 1 (omega arith) total (works_still left.kept same live)
       (λ h following between. (0, refl, code_calls g old.sink between ends_code (others ++ following) refl (leads_nowhere (bytes_of (last ∷ (others ++ following))) refl refl) kind same (left_is left h)))
@@ -137,7 +131,7 @@ module _ {S : Type 0} {g : Ghosts S} {old : Machine S g} {xs : List Placed} {n :
 abbrev pub Found : CodeSets → codes.Front → ℕ → Code → Type 0
 Found sets r n c = r ≡ codes.complete c n (sets_after sets r)
 
-pub nothing_found : (sets : CodeSets) (r : codes.Front) (n : ℕ) → NextCode.Nothing n ≡ next_of r → (c : Code) × Found sets r n c × (kind_of c ≡ Kind.AddsNothing)
+pub nothing_found : (sets : CodeSets) (r : codes.Front) (n : ℕ) → NextCode.Nothing n ≡ next_of r → (c : Code) × Found sets r n c × (kind_of c ≡ Kind.adds_nothing)
 nothing_found sets codes.unfinished n is = let bad : ⊥ = cc in absurd bad
 nothing_found sets (codes.refused fault i) n is = let bad : ⊥ = cc in absurd bad
 nothing_found sets (codes.complete Code.Fill m after) n is = (Code.Fill, cc, refl)
@@ -146,16 +140,28 @@ nothing_found sets (codes.complete (Code.Designated number set) m after) n is = 
 nothing_found sets (codes.complete _ m after) n is = let bad : ⊥ = cc in absurd bad
 
 pub call_found : (sets : CodeSets) (r : codes.Front) (n name : ℕ) → NextCode.Calls n name ≡ next_of r → Found sets r n (Code.Call name)
-call_found sets codes.unfinished n name is = let bad : ⊥ = cc in absurd bad
-call_found sets (codes.refused fault i) n name is = let bad : ⊥ = cc in absurd bad
-call_found sets (codes.complete (Code.Call other) m after) n name is = cc
-call_found sets (codes.complete _ m after) n name is = let bad : ⊥ = cc in absurd bad
+call_found sets r n name h = grind arith
 
 -- No run is open, and a code is complete with so many of these bytes, after those of it that were half read.
 pub record EndsWith {S : Type 0} {g : Ghosts S} (old : Machine S g) (bytes : List ℕ) (count : ℕ) (c : Code) (after : CodeSets) : Type 0 where
   pub closed : old.open_run ≡ None
   pub some : 0 < count
   pub whole : codes.front old.lexer.sets (old.lexer.half ++ bytes) ≡ codes.complete c (length old.lexer.half + count) after
+
+-- The first byte ends the code.
+pub ends_first : {S : Type 0} {g : Ghosts S} {old : Machine S g} {bytes : List ℕ} {b : ℕ} {c : Code} {after : CodeSets} → slice_get bytes 0 ≡ Some b → Lexes old b c after → EndsWith old bytes 1 c after
+ends_first {old = old} {bytes} {b} {c} {after} first k =
+    let (rest, is) = first_byte bytes b first in
+    record {
+      closed = k.closed;
+      some = omega arith;
+      whole = rw (is, ← append_assoc old.lexer.half (b ∷ []) rest, code_stays old.lexer.sets (old.lexer.half ++ b ∷ []) rest c _ after k.whole, length-append old.lexer.half (b ∷ [])) refl;
+    }
+
+pub begins_one : {S : Type 0} {g : Ghosts S} {old : Machine S g} {x : Placed} {xs : List Placed} {c : Code} {after : CodeSets} → Lexes old x.byte c after → BeginsWith old (x ∷ xs) 0 c after
+begins_one {old = old} {x} {xs} {c} {after} k =
+    let all : EndsWith old (x.byte ∷ bytes_of xs) 1 c after = ends_first refl k in
+    record { closed = all.closed; whole = all.whole }
 
 -- A code that draws was read, which leads from one lexer to another.
 pub record Drawing {S : Type 0} {g : Ghosts S} (old : Machine S g) (new : LexerState) (bytes : List ℕ) (count : ℕ) (c : Code) (request : Request) : Type 0 where
@@ -164,28 +170,11 @@ pub record Drawing {S : Type 0} {g : Ghosts S} (old : Machine S g) (new : LexerS
   pub ruled : IsRuled c request
   pub left : new ≡ rested after
 
-acting_is : (c acting : Code) (n m : ℕ) → NextCode.Acts n acting ≡ next_of_code c m → (c ≡ acting) × (m ≡ n) × (kind_of c ≡ Kind.Acts c)
-acting_is (Code.Op op) acting n m is = let bad : ⊥ = cc in absurd bad
-acting_is (Code.Operand word) acting n m is = let bad : ⊥ = cc in absurd bad
-acting_is Code.Fill acting n m is = let bad : ⊥ = cc in absurd bad
-acting_is Code.Shifted acting n m is = let bad : ⊥ = cc in absurd bad
-acting_is (Code.Designated number set) acting n m is = let bad : ⊥ = cc in absurd bad
-acting_is (Code.Call name) acting n m is = let bad : ⊥ = cc in absurd bad
-acting_is (Code.DefMacro name show) acting n m is = let bad : ⊥ = cc in absurd bad
-acting_is _ acting n m is = (cc, cc, refl)
-
-acts_found : (sets : CodeSets) (r : codes.Front) (n : ℕ) (c : Code) → NextCode.Acts n c ≡ next_of r → Found sets r n c × (kind_of c ≡ Kind.Acts c)
-acts_found sets codes.unfinished n c is = let bad : ⊥ = cc in absurd bad
-acts_found sets (codes.refused fault i) n c is = let bad : ⊥ = cc in absurd bad
-acts_found sets (codes.complete found m after) n c is =
-    let (same, count, kind) = acting_is found c n m is in
-    (rw (same, count) refl, rw same at kind)
+acts_found : (sets : CodeSets) (r : codes.Front) (n : ℕ) (c : Code) → NextCode.Acts n c ≡ next_of r → Found sets r n c × (kind_of c ≡ Kind.acts c)
+acts_found sets r n c h = grind arith
 
 definition_found : (sets : CodeSets) (r : codes.Front) (n name : ℕ) (show : Bool) → NextCode.Defines n name show ≡ next_of r → Found sets r n (Code.DefMacro name show)
-definition_found sets codes.unfinished n name show is = let bad : ⊥ = cc in absurd bad
-definition_found sets (codes.refused fault i) n name show is = let bad : ⊥ = cc in absurd bad
-definition_found sets (codes.complete (Code.DefMacro other shown) m after) n name show is = cc
-definition_found sets (codes.complete _ m after) n name show is = let bad : ⊥ = cc in absurd bad
+definition_found sets r n name show h = grind arith
 
 -- the lexer after a code that was found
 pub left_rested : (r : codes.Front) (sets : CodeSets) (new : LexerState) {next : NextCode} → new.half ≡ [] → IsNextOf r sets next new.sets → new ≡ rested (sets_after sets r)
@@ -211,19 +200,12 @@ begins_now {old = old} {bytes = bytes} {count = count} {c = c} closed rests foun
 
 -- a code that begins with ESC has another byte
 long_escape : (sets : CodeSets) (bytes : List ℕ) (c : Code) (n : ℕ) (after : CodeSets) → codes.front sets (27 ∷ bytes) ≡ codes.complete c n after → 1 < n
-long_escape sets bytes c zero after is = absurd (omega (arith, (code_length sets (27 ∷ bytes) c 0 after is).0))
-long_escape sets bytes c (suc zero) after is =
-    let bad : codes.unfinished ≡ codes.complete c 1 after = sym (escape_unfinished sets) ∙ code_taken sets (27 ∷ bytes) c 1 after is in
-    cc
-long_escape sets bytes c (suc (suc n)) after is = omega arith
+long_escape sets bytes c n after h = grind (arith, code_length, escape_unfinished, code_taken)
 
 -- The code was found after ESC, which is half read.
 pub begins_after_escape : {S : Type 0} {g : Ghosts S} {old : Machine S g} {bytes : List ℕ} {count : ℕ} {c : Code} → old.open_run ≡ None → old.lexer.half ≡ 27 ∷ [] → Found old.lexer.sets (codes.front old.lexer.sets (27 ∷ bytes)) count c →
     EndsWith old bytes (count - 1) c (sets_past old.lexer.sets (27 ∷ bytes))
-begins_after_escape {old = old} {bytes = bytes} {count = count} {c = c} closed escaped found =
-    let long = long_escape old.lexer.sets bytes c count _ found in
-    let all : count ≡ 1 + (count - 1) = omega (arith, long) in
-    record { closed = closed; some = omega (arith, long); whole = rw escaped (found ∙ ap (λ (n : ℕ). codes.complete c n (sets_past old.lexer.sets (27 ∷ bytes))) all) }
+begins_after_escape {old = old} {bytes = bytes} {count = count} {c = c} closed escaped found = grind (arith, long_escape)
 
 -- A machine consumes controls without effect.
 fills_take : {S : Type 0} {g : Ghosts S} (m : Machine S g) (xs : List Placed) {ended : Bool} → m.open_run ≡ None → m.lexer.half ≡ [] → IsLive m → Takes m m xs ended (prefix_len is_fill (bytes_of xs)) Nothing
@@ -236,7 +218,7 @@ fills_take {S} {g} m xs {ended} closed rests live = from xs
     none ys = takes_none (record { before = closed; closed = closed; work_is = refl; lexer_is = refl; kept = kept_as refl refl }) refl live
 
     at : (x : Placed) (ys : List Placed) (fills : Bool) → is_fill x.byte ≡ fills → Takes m m ys ended (prefix_len is_fill (bytes_of ys)) Nothing → Takes m m (x ∷ ys) ended (cond fills (1 + prefix_len is_fill (bytes_of ys)) 0) Nothing
-    at x ys true is later = takes_then (nothing_takes (lexes_alone closed rests (fill_front m.lexer.sets x.byte is)) refl left refl live) later refl
+    at x ys true is later = takes_then (whole_nothing (begins_one (lexes_alone closed rests (fill_front m.lexer.sets x.byte is))) refl refl left refl live) later refl
     at x ys false is later = none (x ∷ ys)
 
     from : (ys : List Placed) → Takes m m ys ended (prefix_len is_fill (bytes_of ys)) Nothing
@@ -255,11 +237,11 @@ module _ {S : Type 0} {g : Ghosts S} {old : Machine S g} {bytes : List ℕ} {cou
   total = omega (arith, k.some)
 
   -- The code adds nothing.
-  pub found_nothing : {new : Machine S g} {ended : Bool} → LeftBy old new old.work (rested after) → new.sink ≡ old.sink → kind_of c ≡ Kind.AddsNothing → IsLive new → Codes old new bytes ended (CodeOutcome.Acted count)
+  pub found_nothing : {new : Machine S g} {ended : Bool} → LeftBy old new old.work (rested after) → new.sink ≡ old.sink → kind_of c ≡ Kind.adds_nothing → IsLive new → Codes old new bytes ended (CodeOutcome.Acted count)
   found_nothing left same kind live = record { within = found_within; closed = left.closed ∙ sym k.closed; by = λ x ys is. whole_nothing (placed (x ∷ ys) is) total kind left same live }
 
   -- The code has one byte and adds nothing, and controls without effect follow it.
-  pub found_fills : {new : Machine S g} {ended : Bool} → count ≡ 1 → LeftBy old new old.work (rested after) → new.sink ≡ old.sink → kind_of c ≡ Kind.AddsNothing → IsLive new → Codes old new bytes ended (CodeOutcome.Acted (1 + prefix_len is_fill (drop 1 bytes)))
+  pub found_fills : {new : Machine S g} {ended : Bool} → count ≡ 1 → LeftBy old new old.work (rested after) → new.sink ≡ old.sink → kind_of c ≡ Kind.adds_nothing → IsLive new → Codes old new bytes ended (CodeOutcome.Acted (1 + prefix_len is_fill (drop 1 bytes)))
   found_fills {new} one left same kind live = record {
     within = (omega arith, omega (arith, found_within.1, one, prefix_len-le-length is_fill (drop 1 bytes), length-drop 1 bytes));
     closed = left.closed ∙ sym k.closed;
@@ -269,7 +251,7 @@ module _ {S : Type 0} {g : Ghosts S} {old : Machine S g} {bytes : List ℕ} {cou
   }
 
   -- The code is a call of a macro.
-  pub found_call : {new : Machine S g} {ended : Bool} {name : ℕ} → LeftBy old new old.work (rested after) → new.sink ≡ old.sink → kind_of c ≡ Kind.Calls name → IsLive new → Codes old new bytes ended (CodeOutcome.Calls count name)
+  pub found_call : {new : Machine S g} {ended : Bool} {name : ℕ} → LeftBy old new old.work (rested after) → new.sink ≡ old.sink → kind_of c ≡ Kind.calls name → IsLive new → Codes old new bytes ended (CodeOutcome.Calls count name)
   found_call left same kind live = record {
     within = (found_within.0, found_within.1, rw kind at (front_kind_made old.lexer.sets (old.lexer.half ++ bytes) c _ after k.whole));
     closed = left.closed ∙ sym k.closed;
@@ -293,3 +275,14 @@ module _ {S : Type 0} {g : Ghosts S} {old : Machine S g} {bytes : List ℕ} {cou
     closed = same;
     by = λ x ys front kept refuses. whole_stops (placed (x ∷ ys) front) (omega arith) ruled fails reported refuses.is refuses.sink;
   }
+
+-- The first byte is a code.
+module _ {S : Type 0} {g : Ghosts S} {old : Machine S g} {c : Code} {after : CodeSets} {bytes : List ℕ} {b : ℕ} (first : slice_get bytes 0 ≡ Some b) (k : Lexes old b c after) where
+  pub alone_nothing : {new : Machine S g} {ended : Bool} → LeftBy old new old.work (rested after) → new.sink ≡ old.sink → kind_of c ≡ Kind.adds_nothing → IsLive new → Codes old new bytes ended (CodeOutcome.Acted 1)
+  alone_nothing left same kind live = found_nothing (ends_first first k) left same kind live
+
+  pub alone_acts : {new : Machine S g} {ended : Bool} → LeftBy old new new.work (rested after) → kind_of c ≡ Kind.acts c → {entries : List Entry} → Drew g (code_rule old.work c) old.sink (drawn_by entries new.work) new.sink → IsLive new → TookMore g → WantsMore g → Codes old new bytes ended (CodeOutcome.Acted 1)
+  alone_acts left kind drew live more wants = found_acts (ends_first first k) left (acts c kind) drew live more wants
+
+  pub alone_stops : {new : Machine S g} {ended : Bool} {fault : DrawFault} → new.open_run ≡ old.open_run → kind_of c ≡ Kind.acts c → Fails g (code_rule old.work c) old.sink new.sink fault → FaultMatchesSink g old.sink new.sink (draw_fault fault) → Codes old new bytes ended (CodeOutcome.Stopped 0 (draw_fault fault) 0)
+  alone_stops closed kind fails reported = found_stops (ends_first first k) refl closed (acts c kind) fails reported

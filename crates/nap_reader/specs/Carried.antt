@@ -1,7 +1,6 @@
 use Rattle.std.specs.Prelude.{None, Option, Some, [], ℕ, ⊤, ◌∷◌, ◌≡◌}
-use Rattle.nap_reader.specs.Names.{Code, IsDrawn-prop}
+use Rattle.nap_reader.specs.Names.{CharSet, Code, CodeSets, IsDrawn, IsDrawn-prop, IsGraphic, LexerState}
 use Rattle.std.proofs.Props.{props}
-use Rattle.nap_reader.specs.Below.{IsDrawn, CharSet, CodeSets, IsGraphic, LexerState}
 use Rattle.nap_codes.specs.Front as codes
 use Rattle.nap_reader.specs.declared.body.OpenBody.{OpenBody}
 use Rattle.nap_reader.specs.declared.machine.OpenRun.{OpenRun}

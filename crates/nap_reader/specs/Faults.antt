@@ -1,56 +1,37 @@
 use Rattle.std.specs.Prelude.{ℕ, List, codes}
-use Rattle.nap_reader.specs.Below.{CodeFault, DrawFault}
+use Rattle.nap_reader.specs.Names.{CodeFault, DrawFault}
 use Rattle.nap_reader.specs.declared.fault.Fault.{Fault}
 
--- the number of a refusal
-abbrev pub number_of : Fault → ℕ
-number_of Fault.EighthBit = 1
-number_of Fault.BadEscape = 2
-number_of Fault.ShiftAlone = 3
-number_of Fault.ShiftedCode = 4
-number_of Fault.BadArgument = 5
-number_of (Fault.LeftOut _) = 6
-number_of Fault.ThreeD = 7
-number_of Fault.Missing = 8
-number_of Fault.ManyColours = 9
-number_of Fault.Outside = 10
-number_of Fault.PenUnknown = 11
-number_of Fault.NoAddress = 12
-number_of Fault.LongRun = 13
-number_of Fault.ManyPoints = 14
-number_of Fault.NothingToRepeat = 15
-number_of Fault.Stray = 16
-number_of Fault.Budget = 17
-number_of Fault.Store = 18
-number_of Fault.Cut = 19
-number_of Fault.Unended = 20
-number_of Fault.Memory = 21
-number_of Fault.Sink = 22
+-- the number of a refusal, and its name as it is printed
+abbrev pub row_of_fault : Fault → ℕ × List ℕ
+row_of_fault Fault.EighthBit = (1, codes "EighthBit")
+row_of_fault Fault.BadEscape = (2, codes "BadEscape")
+row_of_fault Fault.ShiftAlone = (3, codes "ShiftAlone")
+row_of_fault Fault.ShiftedCode = (4, codes "ShiftedCode")
+row_of_fault Fault.BadArgument = (5, codes "BadArgument")
+row_of_fault (Fault.LeftOut _) = (6, codes "LeftOut")
+row_of_fault Fault.ThreeD = (7, codes "ThreeD")
+row_of_fault Fault.Missing = (8, codes "Missing")
+row_of_fault Fault.ManyColours = (9, codes "ManyColours")
+row_of_fault Fault.Outside = (10, codes "Outside")
+row_of_fault Fault.PenUnknown = (11, codes "PenUnknown")
+row_of_fault Fault.NoAddress = (12, codes "NoAddress")
+row_of_fault Fault.LongRun = (13, codes "LongRun")
+row_of_fault Fault.ManyPoints = (14, codes "ManyPoints")
+row_of_fault Fault.NothingToRepeat = (15, codes "NothingToRepeat")
+row_of_fault Fault.Stray = (16, codes "Stray")
+row_of_fault Fault.Budget = (17, codes "Budget")
+row_of_fault Fault.Store = (18, codes "Store")
+row_of_fault Fault.Cut = (19, codes "Cut")
+row_of_fault Fault.Unended = (20, codes "Unended")
+row_of_fault Fault.Memory = (21, codes "Memory")
+row_of_fault Fault.Sink = (22, codes "Sink")
 
--- the name of a refusal, as it is printed
+abbrev pub number_of : Fault → ℕ
+number_of fault = (row_of_fault fault).0
+
 abbrev pub name_of : Fault → List ℕ
-name_of Fault.EighthBit = codes "EighthBit"
-name_of Fault.BadEscape = codes "BadEscape"
-name_of Fault.ShiftAlone = codes "ShiftAlone"
-name_of Fault.ShiftedCode = codes "ShiftedCode"
-name_of Fault.BadArgument = codes "BadArgument"
-name_of (Fault.LeftOut _) = codes "LeftOut"
-name_of Fault.ThreeD = codes "ThreeD"
-name_of Fault.Missing = codes "Missing"
-name_of Fault.ManyColours = codes "ManyColours"
-name_of Fault.Outside = codes "Outside"
-name_of Fault.PenUnknown = codes "PenUnknown"
-name_of Fault.NoAddress = codes "NoAddress"
-name_of Fault.LongRun = codes "LongRun"
-name_of Fault.ManyPoints = codes "ManyPoints"
-name_of Fault.NothingToRepeat = codes "NothingToRepeat"
-name_of Fault.Stray = codes "Stray"
-name_of Fault.Budget = codes "Budget"
-name_of Fault.Store = codes "Store"
-name_of Fault.Cut = codes "Cut"
-name_of Fault.Unended = codes "Unended"
-name_of Fault.Memory = codes "Memory"
-name_of Fault.Sink = codes "Sink"
+name_of fault = (row_of_fault fault).1
 
 -- the reader's name of a fault of a code
 abbrev pub code_fault : CodeFault → Fault

@@ -15,7 +15,6 @@ pub mod Collecting
 pub mod Counting
 pub mod Twice
 -- What a reader keeps and does, which no caller sees.
-pub mod Below
 pub mod Shared
 pub mod Carried
 pub mod Stored

@@ -25,23 +25,16 @@ charged_of reader = reader.input.charged
 abbrev pub left_of : {S : Type 0} {g : Ghosts S} → Reader S g → ℕ
 left_of reader = budget_of reader - charged_of reader
 
--- The bodies that a reader keeps: the number that are being read, the number of their bytes, and the number of bytes
--- that ended those which were presented.
-
-abbrev pub frames_of : {S : Type 0} {g : Ghosts S} → Reader S g → ℕ
-frames_of reader = length reader.input.frames.stack.items
-
+-- the number of bytes of the bodies that a reader keeps
 abbrev pub bodies_of : {S : Type 0} {g : Ghosts S} → Reader S g → ℕ
 bodies_of reader = reader.input.store.stored + length reader.input.store.body
 
-abbrev pub pairs_of : {S : Type 0} {g : Ghosts S} → Reader S g → ℕ
-pairs_of reader = length reader.input.store.bytes - bodies_of reader
-
--- the kept bytes are no more than those that were charged, and no more than all bodies may have
+-- The bodies that are being read, the bytes of bodies, and those that ended the presented ones are no more than the
+-- charged bytes, or than all bodies may have.
 pub record IsBounded {S : Type 0} {g : Ghosts S} (reader : Reader S g) : Type 0 where
-  pub frames : frames_of reader ≤ charged_of reader
+  pub frames : length reader.input.frames.stack.items ≤ charged_of reader
   pub bodies : bodies_of reader ≤ store_limit
-  pub pairs : refusal_of reader ≡ None → pairs_of reader ≤ charged_of reader
+  pub pairs : refusal_of reader ≡ None → length reader.input.store.bytes - bodies_of reader ≤ charged_of reader
 
 -- A sink that was s has taken the entries of the outcome, this much is left to charge, and this is the refusal of the
 -- outcome.

@@ -1,6 +1,5 @@
 use Rattle.std.specs.Prelude.{List, None, Option, Some, [], false, length, ℕ, ⊤, ◌++◌, ◌+◌, ◌-◌, ◌∷◌, ◌≡◌, ◌≤◌}
-use Rattle.nap_reader.specs.Names.{Code, start}
-use Rattle.nap_reader.specs.Below.{operand_words, CodeSets, Ghosts, Entry, stream, run_limit, Work}
+use Rattle.nap_reader.specs.Names.{Code, CodeSets, Entry, Ghosts, Work, operand_words, run_limit, start, stream}
 use Rattle.nap_codes.specs.Front as codes
 use Rattle.nap_reader.specs.declared.fault.Refusal.{Refusal}
 use Rattle.nap_reader.specs.declared.body.OpenBody.{OpenBody}

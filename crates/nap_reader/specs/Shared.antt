@@ -1,5 +1,5 @@
 -- The names that most definitions cite, passed on from one place. Declares nothing.
-pub use Rattle.nap_reader.specs.Below.{Cause, CharSet, Code, CodeSets, DrawFault, DrawsBy, Entry, Ghosts, HaltsAfter, IsDrawn, IsGraphic, IsTextByte, LexerState, Opcode, RuleResult, SinkFault, code_rule, device, fault_of, memory, rule, run_limit, sink_model_of, stream}
+pub use Rattle.nap_reader.specs.Names.{Cause, CharSet, Code, CodeSets, DrawFault, DrawsBy, Entry, Ghosts, HaltsAfter, IsDrawn, IsGraphic, IsTextByte, LexerState, Opcode, RuleResult, SinkFault, code_rule, device, fault_of, memory, rule, run_limit, sink_model_of, stream}
 pub use Rattle.nap_reader.specs.Bodies.{BodyFront, Mode, at_escape, between, body_of, ended, ends_body, in_body, no_names, one_byte_longer, refused, store_limit, stores, unfinished}
 unfoldable pub use Rattle.nap_reader.specs.Bodies.{body_front}
 pub use Rattle.nap_reader.specs.Breaking.{BreaksAt, BreaksAtByte, BreaksBetween, BreaksFrom, BreaksInRun, BreaksWith, BreaksWithin, CanBreakAt, CanLackAt, IsCharged, LacksWithin, NeverWants, TakesPart, TookPart, TookPrefix, WantsMemory, cause_of, closed_by, open_place, run_place}

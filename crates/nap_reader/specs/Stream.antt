@@ -1,12 +1,10 @@
 use Rattle.std.specs.Prelude.{Bool, Err, List, None, Ok, Option, Result, Some, [], drop, false, if◌then◌else◌, length, map, nat_le, nat_lt, suc, take, true, zero, ℕ, ◌&&◌, ◌++◌, ◌+◌, ◌-◌, ◌∷◌}
-use Rattle.nap_reader.specs.Names.{Code, prefix_len, start_sets, start_work}
-use Rattle.nap_reader.specs.Below.{CodeSets, Opcode, Entry, OpenDefinition, Work, DrawFault, code_rule, run_limit, RuleResult, rule}
+use Rattle.nap_reader.specs.Names.{Code, CodeSets, DrawFault, Entry, Opcode, OpenDefinition, RuleResult, Work, code_rule, prefix_len, rule, run_limit, start_sets, start_work}
 use Rattle.nap_codes.specs.Front as codes
 use Rattle.nap_reader.specs.declared.fault.Fault.{Fault}
 use Rattle.nap_reader.specs.declared.fault.Refusal.{Refusal}
-use Rattle.nap_reader.specs.declared.machine.codes.Kind.{Kind}
 use Rattle.nap_reader.specs.Faults.{code_fault, draw_fault}
-use Rattle.nap_reader.specs.Kinds.{kind_of}
+use Rattle.nap_reader.specs.Kinds.{Kind, kind_of}
 use Rattle.nap_reader.specs.Bodies as bodies
 use Rattle.nap_reader.specs.Bodies.{Mode, between, in_body, no_names, body_of, bind, store_limit, body_front}
 use Rattle.nap_reader.specs.Course as course
@@ -109,12 +107,12 @@ shown_front m place bytes rest =
 
 -- the front if a code of this kind ends at this place, with the bytes after the code
 abbrev pub code_front : Machine → Kind → ℕ → List Placed → StreamFront
-code_front m (Kind.Opens op) place rest = opened_front m op place rest
-code_front m Kind.Strays place rest = course.refuse (refusal Fault.Stray place)
-code_front m Kind.AddsNothing place rest = course.act [] m rest
-code_front m (Kind.Acts code) place rest = drawn_front m place rest (code_rule m.work code)
-code_front m (Kind.Calls name) place rest = shown_front m place (body_of m.names name) rest
-code_front m (Kind.Binds name show) place rest =
+code_front m (Kind.opens op) place rest = opened_front m op place rest
+code_front m Kind.strays place rest = course.refuse (refusal Fault.Stray place)
+code_front m Kind.adds_nothing place rest = course.act [] m rest
+code_front m (Kind.acts code) place rest = drawn_front m place rest (code_rule m.work code)
+code_front m (Kind.calls name) place rest = shown_front m place (body_of m.names name) rest
+code_front m (Kind.binds name show) place rest =
     drawn_front (record m { mode = in_body name show }) place rest (code_rule m.work (Code.DefMacro name show))
 
 -- the place of the byte at this index

@@ -21,10 +21,10 @@ pub enum Fault {
     ShiftAlone,
     /// A code of the PDI set under a single shift, also an opcode that is left out.
     ShiftedCode,
-    /// An argument outside its range.
-    BadArgument,
     /// A code that the profile leaves out by name.
     LeftOut(Left),
+    /// An argument outside its range.
+    BadArgument,
     /// DOMAIN in three dimensions: b6 of its word is set.
     ThreeD,
     /// A required operand of an opcode is missing.

@@ -1,5 +1,5 @@
 //! The macro bodies that are being read.
-ghost use Rattle.std.specs.Prelude.{true, ℕ, List, ◌≡◌, ◌<◌, ◌≤◌, ◌+◌, ◌↔◌, [], ◌∷◌, ◌++◌, drop, length, vec_len, vec_capacity, IfSome, MatchOption, OnOk, OnErr};
+ghost use Rattle.std.specs.Prelude.{true, ℕ, List, ◌≡◌, ◌<◌, ◌≤◌, ◌+◌, ◌↔◌, [], ◌∷◌, ◌++◌, drop, length, vec_len, vec_capacity, MatchOption, OnOk, OnErr};
 ghost use Rattle.nap_reader.specs.Framed.{FramesIn, Innermost, unread};
 ghost use Rattle.nap_reader.specs.Stream.{bytes_of};
 

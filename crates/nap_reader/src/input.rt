@@ -1,5 +1,5 @@
 //! The input of a reader: the bytes of called bodies, and then those of the piece.
-ghost use Rattle.std.specs.Prelude.{◌≡◌, ◌+◌, ◌++◌, ◌≤◌, List, [], ◌∷◌, None, drop, length, vec_capacity, IfOk, IsTrue, MatchOption, ◌-◌, ◌<◌, MatchResult, Some, OnErr, OnOk, take, ◌*◌, ◌^◌};
+ghost use Rattle.std.specs.Prelude.{◌≡◌, ◌+◌, ◌++◌, ◌≤◌, [], ◌∷◌, None, length, vec_capacity, IfOk, MatchOption, ◌-◌, ◌<◌, MatchResult, Some, OnErr, OnOk, take, ◌*◌, ◌^◌};
 ghost use Rattle.nap_reader.specs.Bodies.{no_names, store_limit, body_of};
 ghost use Rattle.nap_reader.specs.Budgets.{most_budget};
 ghost use Rattle.nap_reader.specs.Carried.{HasName, HasName-prop};
@@ -44,8 +44,6 @@ pub(crate) struct Input {
 
 impl Input {
     ghost use Rattle.nap_reader.specs.NextBytes.{CanAdvance, IsNextText, Moves, Reads, StoresBody, next_bytes, promise_after, CannotShow, CanPass};
-    ghost use Rattle.nap_reader.specs.declared.frames.Frame.{Frame};
-    ghost use Rattle.nap_reader.specs.Steps.{IsOver};
     ghost use Rattle.nap_reader.specs.Stream.{bytes_of, all_at};
     ghost use Rattle.nap_reader.specs.Stored.{store_shown, Exceeds, store_bound, store_grown};
 
@@ -125,23 +123,11 @@ impl Input {
             };
             return Some((slice, false));
         };
-        let slice = Slice {
-            bytes,
-            place,
-            step: 0,
-        };
-        Some((slice, self.is_ended(piece)))
-    }
-
-    /// Whether a byte that isn't an operand byte follows the innermost body.
-    #[inline(always)]
-    fn is_ended(&self, piece: &[u8]) -> bool
-        requires { Reads self.now piece.now }
-        ensures { IsTrue result → (before : List Frame) (frame : Frame) → self.now.frames.stack.items ≡ before ++ frame ∷ [] → IsOver (bytes_of (unread self.now.store.bytes before) ++ drop self.now.at piece.now) }
-    {
+        let step = 0;
+        let slice = Slice { bytes, place, step };
         match self.frames.byte_after(self.store.bytes(), piece, self.at) {
-            Some(byte) => !is_operand(byte),
-            None => false,
+            Some(byte) => Some((slice, !is_operand(byte))),
+            None => Some((slice, false)),
         }
     }
 
@@ -218,29 +204,13 @@ impl Input {
         Ok(())
     }
 
-    /// Opens the body of a macro, and keeps whether it is presented at its end.
-    pub(crate) fn open_body(&mut self, name: u8, show: bool)
-        requires { IsGraphic name }
-        ensures { StoresBody self.old self.new self.old.store (Some (record { name = name; show = show; escape = None })) }
-    {
-        self.body = Some(OpenBody {
-            name,
-            show,
-            escape: None,
-        });
-    }
-
-    /// Keeps an ESC of the body as undecided, at this place.
+    /// Opens the body of a macro, or keeps an ESC of it as undecided, at this place.
     #[inline(always)]
-    pub(crate) fn hold_escape(&mut self, body: OpenBody, place: u64)
-        requires { IsGraphic body.name }
-        ensures { StoresBody self.old self.new self.old.store (Some (record body { escape = Some place })) }
+    pub(crate) fn set_body(&mut self, name: u8, show: bool, escape: Option<u64>)
+        requires { IsGraphic name }
+        ensures { StoresBody self.old self.new self.old.store (Some (record { name = name; show = show; escape = escape })) }
     {
-        self.body = Some(OpenBody {
-            name: body.name,
-            show: body.show,
-            escape: Some(place),
-        });
+        self.body = Some(OpenBody { name, show, escape });
     }
 
     /// Adds the undecided ESC to the body.
@@ -252,7 +222,7 @@ impl Input {
         ensures full { OnErr result (Exceeds self.old.store.promise (self.old.store.stored + length self.old.store.body + 1) self.old.charged) }
     {
         self.store.push(0x1B)?;
-        self.open_body(body.name, body.show);
+        self.set_body(body.name, body.show, None);
         Ok(())
     }
 

@@ -1,5 +1,5 @@
 //! The state that codes work on.
-ghost use Rattle.std.specs.Prelude.{◌≡◌, ◌≤◌, Bool, [], None, Some, length, vec_len, IfErr, IfOk, MatchResult, OnOk, ℕ, List, Option, ◌≢◌, ◌⊎◌, Err, ◌+◌, ◌<◌, ◌^◌};
+ghost use Rattle.std.specs.Prelude.{◌≡◌, ◌≤◌, [], None, Some, length, vec_len, IfErr, IfOk, MatchResult, OnOk, ℕ, List, Option, ◌≢◌, ◌⊎◌, Err, ◌+◌, ◌<◌, ◌^◌};
 ghost use Rattle.nap_reader.specs.Names.{run_limit, start_sets, start_work};
 ghost use Rattle.nap_reader.specs.Carried.{HasRule, HasRule-prop, NoCharacters, NoCharacters-prop};
 ghost use Rattle.nap_reader.specs.Stream.{refusal};
@@ -68,7 +68,7 @@ impl<S: Sink> Machine<S> {
     ghost use Rattle.nap_reader.specs.Steps.{EndsRun, FailsRun, HasRunMemory, IsLive, Refuses, Works, StopsByte, Progresses, TakesUnder};
     ghost use Rattle.nap_reader.specs.declared.body.OpenBody.{OpenBody};
     ghost use Rattle.nap_reader.specs.declared.input.Input.{Input};
-    ghost use Rattle.nap_reader.specs.NextBytes.{CanAdvance, IsNextByte, Moves, Reads, next_bytes};
+    ghost use Rattle.nap_reader.specs.NextBytes.{CanAdvance, IsNextByte, Moves, next_bytes};
     ghost use Rattle.nap_reader.specs.Framed.{placed_at};
     ghost use Rattle.nap_reader.specs.ReadingStates.{reading_state_by};
     ghost use Rattle.nap_reader.specs.Pieces.{Goes, LacksFrom, StopsFrom, TakesSlice, ReadsFurther};
@@ -106,13 +106,10 @@ impl<S: Sink> Machine<S> {
     {
         let Machine {
             alloc,
-            work: _,
-            lexer: _,
-            open_run: _,
             mut run,
             mut scratch,
-            refusal: _,
             sink: first,
+            ..
         } = self;
         run.clear();
         scratch.clear();
@@ -136,16 +133,7 @@ impl<S: Sink> Machine<S> {
     pub(crate) fn into_sink(self) -> S
         ensures { result ≡ self.sink }
     {
-        let Machine {
-            alloc: _,
-            work: _,
-            lexer: _,
-            open_run: _,
-            run: _,
-            scratch: _,
-            refusal: _,
-            sink,
-        } = self;
+        let Machine { sink, .. } = self;
         sink
     }
 
@@ -159,12 +147,10 @@ impl<S: Sink> Machine<S> {
         let Some(open_run) = self.open_run else {
             return Ok(());
         };
+        let place = open_run.place;
         match self.execute(open_run) {
             Ok(_) => Ok(()),
-            Err(fault) => Err(Refusal {
-                fault,
-                place: open_run.place,
-            }),
+            Err(fault) => Err(Refusal { fault, place }),
         }
     }
 
@@ -175,39 +161,13 @@ impl<S: Sink> Machine<S> {
         ensures answer { result ≡ record { count = count; request = Request.Stop } }
     {
         self.refusal = Some(Refusal { fault, place });
-        Taken {
-            count,
-            request: Request::Stop,
-        }
-    }
-
-    /// Consumes bytes of the body that is being defined, if one is, until it ends or no byte is left.
-    #[inline(always)]
-    #[tactic(auto, using(crate::proofs::FurtherLemmas::goes_nowhere))]
-    fn define(&mut self, input: &mut Input, piece: &[u8]) -> Result<(), Refused>
-        requires live { IsLive self.old }
-        requires reads { Reads input.old piece.now }
-        ensures live { OnOk result (IsLive self.new) }
-        ensures run { OnOk result (self.old.open_run ≡ None → self.new.open_run ≡ None) }
-        ensures ends { OnOk result ((input.new.body ≡ None) ⊎ (next_bytes input.new piece.now ≡ [])) }
-        ensures goes { MatchResult result (λ _. Goes piece.now 0 self.old input.old self.new input.new) (λ _. StopsFrom piece.now self.old input.old self.new input.new) }
-    {
-        if input.body.is_none() {
-            return Ok(());
-        }
-        self.take_body(input, piece)
+        took(count, Request::Stop)
     }
 
     /// Advances past the bytes that were consumed, the last of which has this place, and does what their last code
     /// requests of the input.
     #[inline(always)]
-    fn answer(
-        &mut self,
-        input: &mut Input,
-        taken: Taken,
-        place: u64,
-        piece: &[u8],
-    ) -> Result<(), Refused>
+    fn answer(&mut self, input: &mut Input, taken: Taken, place: u64, piece: &[u8]) -> Answer
         requires { (old : Machine S S.Sink) × TakesSlice old self.old input.old piece.now taken.count taken.request place }
         ensures live { OnOk result (IsLive self.new) }
         ensures run { OnOk result (self.old.open_run ≡ None → self.new.open_run ≡ None) }
@@ -228,7 +188,7 @@ impl<S: Sink> Machine<S> {
                 Err(fault) => self.refuse(fault, place),
             },
             Request::Define(name, show) => {
-                input.open_body(name, show);
+                input.set_body(name, show, None);
                 self.take_body(input, piece)
             }
             Request::Stop => {
@@ -240,7 +200,7 @@ impl<S: Sink> Machine<S> {
 
     /// Refuses the stream. Later calls answer the same refusal.
     #[inline(never)]
-    fn refuse(&mut self, fault: Fault, place: u64) -> Result<(), Refused>
+    fn refuse(&mut self, fault: Fault, place: u64) -> Answer
         ensures latched { Refuses self.old self.new (refusal fault place) }
         ensures answer { result ≡ Err (record {}) }
     {
@@ -250,7 +210,7 @@ impl<S: Sink> Machine<S> {
 
     /// Refuses the stream, for good, at the byte that comes next.
     #[inline(never)]
-    fn refuse_next(&mut self, input: &mut Input, fault: Fault, place: u64) -> Result<(), Refused>
+    fn refuse_next(&mut self, input: &mut Input, fault: Fault, place: u64) -> Answer
         requires { CanAdvance input.old 1 }
         ensures answer { result ≡ Err (record {}) }
         ensures stops { (count : ℕ) (start : Input) (piece : List ℕ) (byte at : ℕ) (store : StoreState) (opened : Option OpenBody) → Moves start input.old 0 [] store opened → IsNextByte start piece byte at → fault ≢ Fault.Sink → LacksFrom piece self.old start fault →
@@ -262,7 +222,7 @@ impl<S: Sink> Machine<S> {
     }
 
     /// Reads the next piece of a stream that isn't refused: slice by slice, of the bodies that it calls and of itself.
-    pub(crate) fn read(&mut self, input: &mut Input, piece: &[u8]) -> Result<(), Refused>
+    pub(crate) fn read(&mut self, input: &mut Input, piece: &[u8]) -> Answer
         requires live { IsLive self.old }
         requires rested { input.old.frames.stack.items ≡ [] }
         requires few { input.old.fed + length piece.now < 2 ^ 63 }
@@ -271,7 +231,9 @@ impl<S: Sink> Machine<S> {
         ensures reads { MatchResult result (λ _. ReadsFurther piece.now self.old (record input.old { at = 0 }) self.new input.new × (next_bytes input.new piece.now ≡ [])) (λ _. StopsFrom piece.now self.old (record input.old { at = 0 }) self.new input.new) }
     {
         input.begin_piece();
-        self.define(input, piece)?;
+        if input.body.is_some() {
+            self.take_body(input, piece)?;
+        }
         while let Some((slice, ended)) = input.next_slice(piece) {
             let taken = self.take(&slice, ended, &input.store);
             let place = slice.place_of(taken.count.saturating_sub(1));
@@ -295,17 +257,9 @@ impl<S: Sink> Machine<S> {
     }
 }
 
-/// Returns that `count` bytes were consumed, and nothing is requested.
-#[inline(always)]
-fn took(count: usize) -> Taken
-    ensures { result ≡ record { count = count; request = Request.Nothing } }
-{
-    took_with(count, Request::Nothing)
-}
-
 /// Returns that `count` bytes were consumed, with what their last code requests.
 #[inline(always)]
-fn took_with(count: usize, request: Request) -> Taken
+fn took(count: usize, request: Request) -> Taken
     ensures { result ≡ record { count = count; request = request } }
 {
     Taken { count, request }
@@ -314,3 +268,6 @@ fn took_with(count: usize, request: Request) -> Taken
 /// The stream is refused, and the refusal is kept.
 #[derive(Clone, Copy, Drop)]
 pub(crate) struct Refused;
+
+/// The answer of a step: whether reading goes on.
+pub(crate) type Answer = Result<(), Refused>;

@@ -7,9 +7,11 @@ ghost use Rattle.nap_reader.specs.Names.{IsTextByte, format_effector, run_limit}
 ghost use Rattle.nap_reader.specs.Steps.{IsOver, IsWholeRun};
 ghost use Rattle.nap_reader.specs.Stream.{is_operand_byte};
 
-use nap_codes::format_effector;
 use nap_draw::RUN_LIMIT;
 use std::simd::prelude::*;
+
+/// A bit for each format effector of one byte, at its number: `08` to `0B`, `0D` and `1E`.
+const EFFECTORS: u32 = 0x4000_2F00;
 
 /// Returns how many bytes at the beginning are from `least` to `7F`.
 pub(crate) fn prefix_from(piece: &[u8], least: u8) -> usize
@@ -25,12 +27,14 @@ pub(crate) fn prefix_from(piece: &[u8], least: u8) -> usize
         }
         at = 16;
     }
-    while piece.len() - at >= 32 {
-        let others = others_in(u8x32::from_slice(&piece[at..]), least);
-        if others != 0 {
-            return at + others.trailing_zeros() as usize;
+    if let Some(last) = piece.len().checked_sub(32) {
+        while at <= last {
+            let others = others_in(u8x32::from_slice(&piece[at..]), least);
+            if others != 0 {
+                return at + others.trailing_zeros() as usize;
+            }
+            at += 32;
         }
-        at += 32;
     }
     prefix_end(piece, at, least)
 }
@@ -108,29 +112,21 @@ pub(crate) fn whole_run(piece: &[u8], ended: bool) -> Option<&[u8]>
     ensures whole { IfSome result (λ run. (following : List ℕ) → (ended ≡ true → IsOver following) → IsWholeRun piece.now following run.now) }
     ensures none { result ≡ None → (run_limit < prefix_len is_operand_byte piece.now) ⊎ ((ended ≡ false) × (prefix_len is_operand_byte piece.now ≡ length piece.now)) }
 {
+    // Most runs end within sixteen bytes, so another byte follows.
+    if piece.len() >= 16 {
+        let others = others_in_sixteen(u8x16::from_slice(piece), 0x40);
+        if others != 0 {
+            return Some(&piece[..others.trailing_zeros() as usize]);
+        }
+    }
     let count = prefix_from(piece, 0x40);
     if count > RUN_LIMIT {
         return None;
     }
-    if count == piece.len() {
-        return last_run(piece, ended);
+    if count == piece.len() && !ended {
+        return None;
     }
     Some(&piece[..count])
-}
-
-/// Returns all bytes, which are operand bytes, if another byte follows them.
-#[inline(never)]
-fn last_run(piece: &[u8], ended: bool) -> Option<&[u8]>
-    requires few { length piece.now ≤ run_limit }
-    requires all { prefix_len is_operand_byte piece.now ≡ length piece.now }
-    ensures short { IfSome result (λ run. length run.now ≤ run_limit) }
-    ensures whole { IfSome result (λ run. (following : List ℕ) → (ended ≡ true → IsOver following) → IsWholeRun piece.now following run.now) }
-    ensures none { result ≡ None → ended ≡ false }
-{
-    if ended {
-        return Some(piece);
-    }
-    None
 }
 
 /// Whether a byte is an operand byte, from `40` to `7F`.
@@ -192,8 +188,8 @@ fn is_text_byte(byte: u8) -> bool
 
 /// Whether a byte is a format effector of one byte.
 #[inline(always)]
-fn is_effector(byte: u8) -> bool
+pub(crate) fn is_effector(byte: u8) -> bool
     ensures { result ≡ is_some (format_effector byte) }
 {
-    format_effector(byte).is_some()
+    byte < 0x20 && EFFECTORS >> byte & 1 == 1
 }

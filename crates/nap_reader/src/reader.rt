@@ -26,7 +26,7 @@ impl<S: Sink> Reader<S> {
     ghost use Rattle.nap_reader.specs.Stream.{Outcome, means, with_code};
     ghost use Rattle.nap_draw.specs.Draws.{stream};
     ghost use Rattle.nap_reader.specs.Breaking.{BreaksInRun, cause_of};
-    ghost use Rattle.nap_reader.specs.ReadingStates.{Ends, IsOwn, reading_state};
+    ghost use Rattle.nap_reader.specs.ReadingStates.{Ends, IsOwn};
     ghost use Rattle.nap_reader.specs.Pieces.{HasMemory, HasMemoryOf, Overcharges};
     ghost use Rattle.nap_reader.specs.Steps.{IsSpared};
     ghost use Rattle.nap_reader.specs.ReaderAnswers.{Answers, IsBounded, IsTaken, HasRead, StopsAt, budget_of, charged_of, fed_of, left_of, refusal_of, sink_of, turns_of};

@@ -25,11 +25,14 @@ half_kept n =
 abbrev pub half : ℕ → ℕ
 half n = (kept (n / 256 / 65536) * 65536 + kept (n / 256 % 65536 / 256) * 256 + kept (n / 256 % 65536 % 256)) * 256
 
+-- a mask of two halves keeps the parts of each
+parts_kept : (n high low : ℕ) → low < 4294967296 → bit_and n (high * 4294967296 + low) ≡ bit_and (n / 4294967296) high * 4294967296 + bit_and (n % 4294967296) low
+parts_kept n high low fits =
+    ap (λ m. bit_and m (high * 4294967296 + low)) (sym (div-add-mod' n 4294967296))
+    ∙ and_block 32 (n / 4294967296) high (n % 4294967296) low (mod_below n 4294967296 (omega arith)) fits
+
 pub coarse_kept : (n : ℕ) → bit_and n 0x3838_3800_3838_3800 ≡ half (n / 4294967296) * 4294967296 + half (n % 4294967296)
-coarse_kept n =
-    ap (λ m. bit_and m 0x3838_3800_3838_3800) (sym (div-add-mod' n 4294967296))
-    ∙ and_block 32 (n / 4294967296) 0x38383800 (n % 4294967296) 0x38383800 (mod_below n 4294967296 (omega arith)) (omega arith)
-    ∙ ap₂ (λ a b. a * 4294967296 + b) (half_kept (n / 4294967296)) (half_kept (n % 4294967296))
+coarse_kept n = parts_kept n 0x38383800 0x38383800 (omega arith) ∙ ap₂ (λ a b. a * 4294967296 + b) (half_kept (n / 4294967296)) (half_kept (n % 4294967296))
 
 -- digits of x alone
 packed_digits : (ds : List ℕ) → length ds ≡ 8 → All (λ d. d < 8) ds → packed_coordinates (value_of 8 8 ds) 0 ≡ value_of 256 8 ds * 8
@@ -167,18 +170,10 @@ high_kept n words =
 -- The words of two numbers whose nine highest bits are taken from others.
 
 low_kept : (n : ℕ) → bit_and n 0x38383800 ≡ half (n % 4294967296)
-low_kept n =
-    ap (λ m. bit_and m 0x38383800) (sym (div-add-mod' n 4294967296))
-    ∙ and_block 32 (n / 4294967296) 0 (n % 4294967296) 0x38383800 (mod_below n 4294967296 (omega arith)) (omega arith)
-    ∙ ap₂ (λ a b. a * 4294967296 + b) (and_zero_r (n / 4294967296)) (half_kept (n % 4294967296))
-    ∙ omega arith
+low_kept n = parts_kept n 0 0x38383800 (omega arith) ∙ ap₂ (λ a b. a * 4294967296 + b) (and_zero_r (n / 4294967296)) (half_kept (n % 4294967296)) ∙ omega arith
 
 upper_kept : (n : ℕ) → bit_and n 0x3838_3800_0000_0000 ≡ half (n / 4294967296) * 4294967296
-upper_kept n =
-    ap (λ m. bit_and m 0x3838_3800_0000_0000) (sym (div-add-mod' n 4294967296))
-    ∙ and_block 32 (n / 4294967296) 0x38383800 (n % 4294967296) 0 (mod_below n 4294967296 (omega arith)) (omega arith)
-    ∙ ap₂ (λ a b. a * 4294967296 + b) (half_kept (n / 4294967296)) (and_zero_r (n % 4294967296))
-    ∙ omega arith
+upper_kept n = parts_kept n 0x38383800 0 (omega arith) ∙ ap₂ (λ a b. a * 4294967296 + b) (half_kept (n / 4294967296)) (and_zero_r (n % 4294967296)) ∙ omega arith
 
 -- the number whose words are put together
 abbrev joined : ℕ → ℕ → ℕ

@@ -69,8 +69,18 @@ unfolding g_in r_in b_in
 words_of_colour n words g r b g_is r_is b_is = rw (← g_is, ← r_is, ← b_is) (triple_words-values (words_in n) words (length-words_in n words))
 
 -- two bits of each byte, copied so that a mask keeps each at its position
+abbrev Kept : ℕ → ℕ → (ℕ → ℕ) → ℕ → Type 0
+Kept times mask place d = (d * times < 256) × (bit_and (d * times) mask ≡ place d)
+
 module _ (times mask : ℕ) (place : ℕ → ℕ) (mask_fits : mask < 256)
-    (kept : (d : ℕ) → d < 4 → (d * times < 256) × (bit_and (d * times) mask ≡ place d)) where
+    (each : Kept times mask place 0 × Kept times mask place 1 × Kept times mask place 2 × Kept times mask place 3) where
+  kept : (d : ℕ) → d < 4 → Kept times mask place d
+  kept zero fits = each.0
+  kept (suc zero) fits = each.1
+  kept (suc (suc zero)) fits = each.2
+  kept (suc (suc (suc zero))) fits = each.3
+  kept (suc (suc (suc (suc d)))) fits = absurd (omega arith)
+
   placed : (ds : List ℕ) → AreTwoBits ds → length ds ≡ 8 →
       bit_and (value_of 256 8 ds * times) (value_of 256 8 (replicate 8 mask)) ≡ value_of 256 8 (map place ds)
   placed ds fit len =
@@ -92,27 +102,6 @@ module _ (times mask : ℕ) (place : ℕ → ℕ) (mask_fits : mask < 256)
 -- weight
 abbrev bits_at : ℕ → ℕ → ℕ
 bits_at weight d = d / 2 * (weight * 8) + d % 2 * weight
-
-g_kept : (d : ℕ) → d < 4 → (d * 20 < 256) × (bit_and (d * 20) 0x24 ≡ bits_at 4 d)
-g_kept zero fits = (omega arith, refl)
-g_kept (suc zero) fits = (omega arith, refl)
-g_kept (suc (suc zero)) fits = (omega arith, refl)
-g_kept (suc (suc (suc zero))) fits = (omega arith, refl)
-g_kept (suc (suc (suc (suc d)))) fits = absurd (omega arith)
-
-r_kept : (d : ℕ) → d < 4 → (d * 10 < 256) × (bit_and (d * 10) 0x12 ≡ bits_at 2 d)
-r_kept zero fits = (omega arith, refl)
-r_kept (suc zero) fits = (omega arith, refl)
-r_kept (suc (suc zero)) fits = (omega arith, refl)
-r_kept (suc (suc (suc zero))) fits = (omega arith, refl)
-r_kept (suc (suc (suc (suc d)))) fits = absurd (omega arith)
-
-b_kept : (d : ℕ) → d < 4 → (d * 5 < 256) × (bit_and (d * 5) 0x09 ≡ bits_at 1 d)
-b_kept zero fits = (omega arith, refl)
-b_kept (suc zero) fits = (omega arith, refl)
-b_kept (suc (suc zero)) fits = (omega arith, refl)
-b_kept (suc (suc (suc zero))) fits = (omega arith, refl)
-b_kept (suc (suc (suc (suc d)))) fits = absurd (omega arith)
 
 -- words of three digits have the value of the bits of each
 value_of-words_of_triples : (places : ℕ) (gs rs bs : List ℕ) → length gs ≡ places → length rs ≡ places → length bs ≡ places →
@@ -139,9 +128,9 @@ module _ (g r b : ℕ) (g_fits : g < 65536) (r_fits : r < 65536) (b_fits : b < 6
       let bs = digits_of 4 8 b in
       ap₂ (λ x y. x + y)
       (ap₂ (λ x y. x + y)
-      (placed 20 0x24 (bits_at 4) (omega arith) g_kept gs (digits_of-below 4 8 g (omega arith) g_fits) (length-digits_of 4 8 g))
-      (placed 10 0x12 (bits_at 2) (omega arith) r_kept rs (digits_of-below 4 8 r (omega arith) r_fits) (length-digits_of 4 8 r)))
-      (placed 5 0x09 (bits_at 1) (omega arith) b_kept bs (digits_of-below 4 8 b (omega arith) b_fits) (length-digits_of 4 8 b))
+      (placed 20 0x24 (bits_at 4) (omega arith) (search arith) gs (digits_of-below 4 8 g (omega arith) g_fits) (length-digits_of 4 8 g))
+      (placed 10 0x12 (bits_at 2) (omega arith) (search arith) rs (digits_of-below 4 8 r (omega arith) r_fits) (length-digits_of 4 8 r)))
+      (placed 5 0x09 (bits_at 1) (omega arith) (search arith) bs (digits_of-below 4 8 b (omega arith) b_fits) (length-digits_of 4 8 b))
       ∙ value_of-words_of_triples 8 gs rs bs (length-digits_of 4 8 g) (length-digits_of 4 8 r) (length-digits_of 4 8 b)
 
 -- digits of two bits have the value of both bits

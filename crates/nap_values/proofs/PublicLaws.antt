@@ -107,22 +107,7 @@ missing_words_are_zero words n = (
 pub values_are_in_range : ValuesAreInRange
 unfolding multi_of single_of colour_of
 values_are_in_range words all =
-    let pos4 : 0 < 4 = omega arith in
-    let x_fits = x_value-below words all in
-    let y_fits = y_value-below words all in (
-      (
-        signed_of-low (value_of 8 8 (map x_digit words)) x_fits,
-        signed_of-high (value_of 8 8 (map x_digit words)) x_fits,
-        signed_of-low (value_of 8 8 (map y_digit words)) y_fits,
-        signed_of-high (value_of 8 8 (map y_digit words)) y_fits,
-      ),
-      value_of-below 64 4 words (omega arith) all,
-      (
-        value_of-below 4 8 (map g_digit words) pos4 (g_digits-below words all),
-        value_of-below 4 8 (map r_digit words) pos4 (r_digits-below words all),
-        value_of-below 4 8 (map b_digit words) pos4 (b_digits-below words all),
-      ),
-    )
+    search (signed_of-low, signed_of-high, x_value-below, y_value-below, value_of-below, g_digits-below, r_digits-below, b_digits-below, arith)
 
 -- a number plus the displacement from it to another is the other
 there : (a b : ℕ) → pos a +ℤ (pos b -ℤ pos a) ≡ pos b

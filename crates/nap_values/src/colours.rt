@@ -1,9 +1,13 @@
 //! Addresses of the colour map, and colours by their components.
-ghost use Rattle.std.specs.Prelude.{◌≡◌, ◌<◌, ◌↔◌, IsSome, IfSome, ◌≤◌, All};
+ghost use Rattle.std.specs.Prelude.{◌≡◌, ◌<◌, ◌↔◌, IsSome, IfSome, ◌≤◌, All, ℕ, ◌==◌};
 ghost use Rattle.nap_values.specs.Digits.{value_of, digits_of};
 ghost use Rattle.nap_values.specs.Operands.{colour_of};
-ghost use Rattle.nap_values.specs.PackedCoordinates.{words_in};
+ghost use Rattle.nap_values.specs.PackedCoordinates.{words_in, HoldsWords};
 ghost use Rattle.nap_values.specs.PackedColours.{g_in, r_in, b_in, packed_colour};
+ghost use Rattle.nap_values.specs.Colours.{Components};
+ghost use Rattle.std.specs.Ordering.{on, eq_of_both};
+ghost use Rattle.std.proofs.Common.{rules};
+ghost use Rattle.std.specs.Cmp.Rules.{comparing};
 
 use crate::packed::PackedWords;
 use std::fmt;
@@ -14,8 +18,6 @@ use std::marker::Model;
 pub struct Addr(u32);
 
 impl Model for Addr {
-    ghost use Rattle.std.specs.Prelude.{ℕ, ◌<◌};
-
     ghost Value = { ℕ };
 
     ghost view = { λ a. a.0 };
@@ -34,11 +36,10 @@ impl Addr {
         ensures found { IsSome result ↔ (number < 16777216) }
         ensures value { IfSome result (λ a. a ≡ number) }
     {
-        if number < Self::LIMIT {
-            Some(Addr(number))
-        } else {
-            None
+        if number >= Self::LIMIT {
+            return None;
         }
+        Some(Addr(number))
     }
 
     /// Returns the address with this number, which is in range.
@@ -58,19 +59,13 @@ impl Addr {
     }
 }
 
-/// A colour by its green, red and blue components, 16 bits each: the value of the operand of SET COLOR (PROFILE.md,
-/// Operands). It is stored as the eight words that spell it.
+/// A colour by its components, 16 bits each, stored as the eight words that spell it (PROFILE.md, Operands).
 #[derive(Clone, Copy, Drop)]
 pub struct Grb {
     words: u64,
 }
 
 impl Model for Grb {
-    ghost use Rattle.std.specs.Prelude.{◌≡◌};
-    ghost use Rattle.nap_values.specs.Colours.{Components};
-    ghost use Rattle.nap_values.specs.PackedCoordinates.{HoldsWords};
-    ghost use Rattle.nap_values.specs.PackedColours.{b_in, g_in, packed_colour, r_in};
-
     ghost Value = { Components };
 
     ghost view = { λ c. record { g = g_in c.words; r = r_in c.words; b = b_in c.words } };
@@ -83,11 +78,6 @@ impl Model for Grb {
 }
 
 impl PartialEq for Grb {
-    ghost use Rattle.std.specs.Prelude.{◌==◌};
-    ghost use Rattle.std.specs.Ordering.{on, eq_of_both};
-    ghost use Rattle.std.proofs.Common.{rules};
-    ghost use Rattle.std.specs.Cmp.Rules.{comparing};
-
     ghost eq = { eq_of_both (on (λ c. c.g) ◌==◌) (eq_of_both (on (λ c. c.r) ◌==◌) (on (λ c. c.b) ◌==◌)) };
 
     ghost laws = { Prim.search (comparing, rules) };
@@ -99,27 +89,16 @@ impl PartialEq for Grb {
 }
 
 impl Eq for Grb {
-    ghost use Rattle.std.proofs.Common.{rules};
-    ghost use Rattle.std.specs.Cmp.Rules.{comparing};
-
     ghost laws = { Prim.search (comparing, rules) };
 }
 
 impl fmt::Debug for Grb {
     fn fmt<W: fmt::Write>(&self, f: &mut fmt::Formatter<W>) -> fmt::Result {
-        f.debug_struct("Grb")
-            .field("g", &self.g())
-            .field("r", &self.r())
-            .field("b", &self.b())
-            .finish()
+        write!(f, "Grb({}, {}, {})", self.g(), self.r(), self.b())
     }
 }
 
 impl Grb {
-    ghost use Rattle.nap_values.specs.Operands.{colour_of};
-    ghost use Rattle.nap_values.specs.PackedColours.{b_in, g_in, r_in};
-    ghost use Rattle.nap_values.specs.PackedCoordinates.{HoldsWords, words_in};
-
     /// Every component is below this limit.
     pub const LIMIT: u32 = 65_536;
 
@@ -127,8 +106,11 @@ impl Grb {
     pub fn new(g: u16, r: u16, b: u16) -> Grb
         ensures { result ≡ record { g = g; r = r; b = b } }
     {
+        // Each two-bit digit is copied to two positions: the mask keeps its lower bit at one, its higher at the other.
         Grb {
-            words: pack_colour(g, r, b).get(),
+            words: (spread_digits(g) * 20 & GREEN)
+                + (spread_digits(r) * 10 & RED)
+                + (spread_digits(b) * 5 & BLUE),
         }
     }
 
@@ -166,21 +148,21 @@ impl Grb {
     pub fn g(self) -> u16
         ensures { result ≡ self.g }
     {
-        g_bits(self.words())
+        collected_digits((self.words / 32 & LOWEST) * 2 + (self.words / 4 & LOWEST))
     }
 
     /// Returns the red component.
     pub fn r(self) -> u16
         ensures { result ≡ self.r }
     {
-        r_bits(self.words())
+        collected_digits((self.words / 16 & LOWEST) * 2 + (self.words / 2 & LOWEST))
     }
 
     /// Returns the blue component.
     pub fn b(self) -> u16
         ensures { result ≡ self.b }
     {
-        b_bits(self.words())
+        collected_digits((self.words / 8 & LOWEST) * 2 + (self.words & LOWEST))
     }
 }
 
@@ -219,44 +201,4 @@ fn collected_digits(digits: u64) -> u16
     let quarters = (digits + digits / 64) & 0x000F_000F_000F_000F;
     let halves = (quarters + quarters / 4096) & 0x0000_00FF_0000_00FF;
     ((halves + halves / 16_777_216) % 65_536) as u16
-}
-
-/// Packs the components of a colour. Each two-bit digit is copied to two positions: the mask keeps its lower bit at the
-/// first and its higher bit at the second.
-#[inline]
-pub(crate) fn pack_colour(g: u16, r: u16, b: u16) -> PackedWords
-    ensures { result ≡ packed_colour g r b }
-{
-    PackedWords::new(
-        (spread_digits(g) * 20 & GREEN)
-            + (spread_digits(r) * 10 & RED)
-            + (spread_digits(b) * 5 & BLUE),
-    )
-}
-
-/// Returns the 16 bits of green.
-#[inline]
-pub(crate) fn g_bits(words: PackedWords) -> u16
-    ensures { result ≡ g_in words }
-{
-    let words = words.get();
-    collected_digits((words / 32 & LOWEST) * 2 + (words / 4 & LOWEST))
-}
-
-/// Returns the 16 bits of red.
-#[inline]
-pub(crate) fn r_bits(words: PackedWords) -> u16
-    ensures { result ≡ r_in words }
-{
-    let words = words.get();
-    collected_digits((words / 16 & LOWEST) * 2 + (words / 2 & LOWEST))
-}
-
-/// Returns the 16 bits of blue.
-#[inline]
-pub(crate) fn b_bits(words: PackedWords) -> u16
-    ensures { result ≡ b_in words }
-{
-    let words = words.get();
-    collected_digits((words / 8 & LOWEST) * 2 + (words & LOWEST))
 }

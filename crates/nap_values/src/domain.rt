@@ -1,11 +1,10 @@
 //! The lengths of operands.
-
 ghost use Rattle.std.specs.Prelude.{◌≡◌, ◌≤◌, ◌↔◌, IsSome, IfSome};
+ghost use Rattle.nap_values.specs.Domains.{OperandLengths};
 
 use std::marker::Model;
 
-/// The operand lengths, in words: 1 to 8 for a multi-value operand, 1 to 4 for a single-value operand (PROFILE.md,
-/// DOMAIN).
+/// The operand lengths, in words: 1 to 8 for a multi-value operand, 1 to 4 for a single-value one (PROFILE.md, DOMAIN).
 #[derive(Clone, Copy, PartialEq, Eq, Debug, Drop)]
 pub struct Domain {
     multi: u8,
@@ -13,9 +12,6 @@ pub struct Domain {
 }
 
 impl Model for Domain {
-    ghost use Rattle.std.specs.Prelude.{◌≤◌};
-    ghost use Rattle.nap_values.specs.Domains.{OperandLengths};
-
     ghost Value = { OperandLengths };
 
     ghost view = { λ d. record { multi = d.multi; single = d.single } };

@@ -1,5 +1,4 @@
-//! The values of operands: points, displacements, colours, addresses, and the words that spell them (PROFILE.md,
-//! Operands).
+//! Points, displacements, colours and addresses, and the words that spell them (PROFILE.md, Operands).
 #![tactic(auto)]
 
 mod colours;

@@ -17,14 +17,10 @@ const LOW: u64 = 0x3F3F_3F3F_3F3F_3F3F;
 /// Selects the low six bits of the first three of eight bytes.
 const LOW_OF_THREE: u64 = 0x3F3F_3F00_0000_0000;
 
-/// The sign bits of x and of y in the first word of an operand.
-const SIGNS_OF_FIRST: u8 = 0x24;
-
 /// The greatest number of words of an operand.
 pub(crate) const MOST_WORDS: usize = 8;
 
-/// Decodes a multi-value operand of at most eight bytes as a displacement. Missing words count as zero (PROFILE.md,
-/// Operands).
+/// Decodes a multi-value operand of at most eight bytes as a displacement. Missing words count as zero.
 #[inline]
 pub fn multi_bytes(operand: &[u8]) -> Move
     requires { length operand.now ≤ 8 }
@@ -44,16 +40,15 @@ pub fn multi_first_three(block: &[u8; 8]) -> Move
     Move::from_words(PackedWords::new(u64::from_be_bytes(*block) & LOW_OF_THREE))
 }
 
-/// Whether the point that an operand with this first byte spells is on the unit screen: no sign bit is set.
+/// Whether an operand with this first byte spells a point on the unit screen: its sign bits of x and y are clear.
 #[inline]
 pub fn begins_inside(first: u8) -> bool
     ensures { (rest : List ℕ) → result ≡ is_some (point_at (multi_of (operand_words (first ∷ rest)))) }
 {
-    first & SIGNS_OF_FIRST == 0
+    first & 0x24 == 0
 }
 
-/// Decodes a single-value operand of at most four bytes as an address. Missing words count as zero (PROFILE.md,
-/// Operands).
+/// Decodes a single-value operand of at most four bytes as an address. Missing words count as zero.
 pub fn single_bytes(operand: &[u8]) -> Addr
     requires { length operand.now ≤ 4 }
     ensures { result ≡ single_of (operand_words operand.now) }
@@ -75,8 +70,7 @@ pub(crate) fn pack_eight(bytes: [u8; MOST_WORDS]) -> PackedWords
     PackedWords::new(u64::from_be_bytes(bytes) & LOW)
 }
 
-/// Packs the words that at most eight bytes carry, with zero words after them. Not inlined, so that loops over three
-/// bytes keep their registers.
+/// Packs the words of at most eight bytes. Not inlined, so that loops over three bytes keep their registers.
 #[inline(never)]
 pub(crate) fn pack_padded(run: &[u8]) -> PackedWords
     requires { length run.now ≤ 8 }
@@ -95,24 +89,21 @@ pub(crate) fn pack_padded(run: &[u8]) -> PackedWords
     }
 }
 
-/// Decodes a multi-value operand as a displacement. Missing words count as zero, and words after the eighth are
-/// ignored, so the result doesn't depend on `size`, the operand length (PROFILE.md, Operands).
+/// Decodes eight words, whatever `size` is, as a displacement. Missing words count as zero, further ones not at all.
 pub fn multi(run: &[Word], size: u8) -> Move
     ensures { result ≡ multi_of run.now }
 {
     multi_bytes(&padded_bytes(run))
 }
 
-/// Decodes a single-value operand as an address. Missing words count as zero, and words after the fourth are ignored,
-/// so the result doesn't depend on `size`, the operand length (PROFILE.md, Operands).
+/// Decodes four words, whatever `size` is, as an address. Missing words count as zero, further ones not at all.
 pub fn single(run: &[Word], size: u8) -> Addr
     ensures { result ≡ single_of run.now }
 {
     single_bytes(&padded_bytes(run)[..4])
 }
 
-/// Decodes a multi-value operand as a colour. Missing words count as zero, and words after the eighth are ignored, so
-/// the result doesn't depend on `size`, the operand length (PROFILE.md, Operands).
+/// Decodes eight words, whatever `size` is, as a colour. Missing words count as zero, further ones not at all.
 pub fn colour(run: &[Word], size: u8) -> Grb
     ensures { result ≡ colour_of run.now }
 {
@@ -130,8 +121,7 @@ fn padded_bytes(run: &[Word]) -> [u8; MOST_WORDS]
     bytes
 }
 
-/// Decodes a multi-value operand of at most eight bytes as a colour. Missing words count as zero (PROFILE.md,
-/// Operands). An operand of one or two bytes is decoded without a further call.
+/// Decodes a multi-value operand of at most eight bytes as a colour. Missing words count as zero.
 pub fn colour_bytes(operand: &[u8]) -> Grb
     requires { length operand.now ≤ 8 }
     ensures { result ≡ colour_of (operand_words operand.now) }

@@ -1,7 +1,5 @@
-//! Eight words packed into a number, one byte for each, the first in the highest byte. A word has three bits of x above
-//! three bits of y, so the base-8 digits of x and y alternate.
-
-ghost use Rattle.std.specs.Prelude.{◌≡◌, ◌+◌, ◌-◌, ◌*◌, ◌/◌, ◌%◌, ◌<◌, ◌≤◌, ◌↔◌, All, IsTrue, take};
+//! Eight words in the bytes of a number, the first in the highest. A word has three bits of x above three bits of y.
+ghost use Rattle.std.specs.Prelude.{◌≡◌, ◌+◌, ◌-◌, ◌*◌, ◌/◌, ◌%◌, ◌<◌, ◌≤◌, ◌↔◌, All, IsTrue, take, ℕ};
 ghost use Rattle.nap_values.specs.Digits.{value_of, digits_of};
 ghost use Rattle.nap_values.specs.PackedCoordinates.{HoldsWords, x_in, y_in, packed_coordinates};
 ghost use Rattle.nap_values.specs.Coarse.{coarse_part, coarse_words, with_high};
@@ -58,9 +56,6 @@ fn collected_digits(digits: u64) -> u32
 pub(crate) struct PackedWords(u64);
 
 impl Model for PackedWords {
-    ghost use Rattle.std.specs.Prelude.{ℕ};
-    ghost use Rattle.nap_values.specs.PackedCoordinates.{HoldsWords};
-
     ghost Value = { ℕ };
 
     ghost view = { λ p. p.0 };
@@ -208,8 +203,7 @@ impl PackedWords {
         PackedWords(bytes.wrapping_mul(0x8_0000_0001) & COARSE)
     }
 
-    /// Subtracts x from x and y from y, modulo 2^24. Borrows pass through the other bits, which are all clear for the
-    /// subtraction.
+    /// Subtracts x from x and y from y, modulo 2^24. Borrows pass through the other bits, which are all clear.
     #[inline]
     pub(crate) fn difference(self, others: PackedWords) -> PackedWords
         ensures { result ≡ packed_coordinates ((x_in self + (16777216 - x_in others)) % 16777216) ((y_in self + (16777216 - y_in others)) % 16777216) }

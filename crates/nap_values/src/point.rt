@@ -1,23 +1,24 @@
 //! Points of the unit screen.
-ghost use Rattle.std.specs.Prelude.{◌≡◌, ◌<◌, ◌↔◌, IsSome, IfSome, ◌≤ℤ◌, ◌<ℤ◌, pos, negsuc};
+ghost use Rattle.std.specs.Prelude.{◌≡◌, ◌<◌, ◌↔◌, IsSome, IfSome, ◌≤ℤ◌, ◌<ℤ◌, pos, negsuc, ◌==◌};
 ghost use Rattle.nap_values.specs.TwosComplement.{signed_of, bits_of};
+ghost use Rattle.nap_values.specs.Coordinates.{Coordinates, point_at, displaced_point, displacement_to, Displacement};
+ghost use Rattle.nap_values.specs.PackedCoordinates.{HoldsWords, x_in, y_in, packed_coordinates, words_in};
+ghost use Rattle.std.specs.Ordering.{on, eq_of_both, int_eq};
+ghost use Rattle.std.proofs.Common.{rules};
+ghost use Rattle.std.specs.Cmp.Rules.{comparing};
+ghost use Rattle.nap_values.specs.Operands.{multi_of};
 
 use crate::packed::PackedWords;
 use std::fmt;
 use std::marker::Model;
 
-/// A point of the unit screen: its coordinates in units of 2^-23, each from 0 to 8,388,607 (PROFILE.md, Operands). It
-/// is stored as the eight words that spell it.
+/// A point of the unit screen, stored as the words that spell it: coordinates from 0 to 8,388,607, in units of 2^-23.
 #[derive(Clone, Copy, Drop)]
 pub struct Point {
     words: u64,
 }
 
 impl Model for Point {
-    ghost use Rattle.std.specs.Prelude.{◌≡◌, ◌<◌};
-    ghost use Rattle.nap_values.specs.Coordinates.{Coordinates};
-    ghost use Rattle.nap_values.specs.PackedCoordinates.{HoldsWords, x_in, y_in, packed_coordinates};
-
     ghost Value = { Coordinates };
 
     ghost view = { λ p. record { x = x_in p.words; y = y_in p.words } };
@@ -30,11 +31,6 @@ impl Model for Point {
 }
 
 impl PartialEq for Point {
-    ghost use Rattle.std.specs.Prelude.{◌==◌};
-    ghost use Rattle.std.specs.Ordering.{on, eq_of_both};
-    ghost use Rattle.std.proofs.Common.{rules};
-    ghost use Rattle.std.specs.Cmp.Rules.{comparing};
-
     ghost eq = { eq_of_both (on (λ p. p.x) ◌==◌) (on (λ p. p.y) ◌==◌) };
 
     ghost laws = { Prim.search (comparing, rules) };
@@ -46,26 +42,16 @@ impl PartialEq for Point {
 }
 
 impl Eq for Point {
-    ghost use Rattle.std.proofs.Common.{rules};
-    ghost use Rattle.std.specs.Cmp.Rules.{comparing};
-
     ghost laws = { Prim.search (comparing, rules) };
 }
 
 impl fmt::Debug for Point {
     fn fmt<W: fmt::Write>(&self, f: &mut fmt::Formatter<W>) -> fmt::Result {
-        f.debug_struct("Point")
-            .field("x", &self.x())
-            .field("y", &self.y())
-            .finish()
+        write!(f, "Point({}, {})", self.x(), self.y())
     }
 }
 
 impl Point {
-    ghost use Rattle.nap_values.specs.Coordinates.{point_at, displaced_point, displacement_to};
-    ghost use Rattle.nap_values.specs.Operands.{multi_of};
-    ghost use Rattle.nap_values.specs.PackedCoordinates.{HoldsWords, words_in, x_in, y_in};
-
     /// Every coordinate is below this limit.
     pub const LIMIT: u32 = 8_388_608;
 
@@ -162,19 +148,13 @@ impl Point {
     }
 }
 
-/// A displacement, or a size, in units of 2^-23 of the unit screen: x and y are each from -8,388,608 to 8,388,607
-/// (PROFILE.md, Operands). It is stored as the eight words that spell it.
+/// A displacement or size in units of 2^-23, each part from -8,388,608 to 8,388,607, stored as the words that spell it.
 #[derive(Clone, Copy, Drop)]
 pub struct Move {
     words: u64,
 }
 
 impl Model for Move {
-    ghost use Rattle.std.specs.Prelude.{◌≡◌};
-    ghost use Rattle.nap_values.specs.Coordinates.{Displacement};
-    ghost use Rattle.nap_values.specs.TwosComplement.{signed_of, bits_of};
-    ghost use Rattle.nap_values.specs.PackedCoordinates.{HoldsWords, x_in, y_in, packed_coordinates};
-
     ghost Value = { Displacement };
 
     ghost view = { λ m. record { x = signed_of (x_in m.words); y = signed_of (y_in m.words) } };
@@ -187,10 +167,6 @@ impl Model for Move {
 }
 
 impl PartialEq for Move {
-    ghost use Rattle.std.specs.Ordering.{int_eq, on, eq_of_both};
-    ghost use Rattle.std.proofs.Common.{rules};
-    ghost use Rattle.std.specs.Cmp.Rules.{comparing};
-
     ghost eq = { eq_of_both (on (λ m. m.x) int_eq) (on (λ m. m.y) int_eq) };
 
     ghost laws = { Prim.search (comparing, rules) };
@@ -202,27 +178,16 @@ impl PartialEq for Move {
 }
 
 impl Eq for Move {
-    ghost use Rattle.std.proofs.Common.{rules};
-    ghost use Rattle.std.specs.Cmp.Rules.{comparing};
-
     ghost laws = { Prim.search (comparing, rules) };
 }
 
 impl fmt::Debug for Move {
     fn fmt<W: fmt::Write>(&self, f: &mut fmt::Formatter<W>) -> fmt::Result {
-        f.debug_struct("Move")
-            .field("x", &self.x())
-            .field("y", &self.y())
-            .finish()
+        write!(f, "Move({}, {})", self.x(), self.y())
     }
 }
 
 impl Move {
-    ghost use Rattle.nap_values.specs.Coordinates.{point_at};
-    ghost use Rattle.nap_values.specs.Operands.{multi_of};
-    ghost use Rattle.nap_values.specs.PackedCoordinates.{HoldsWords, words_in, x_in, y_in};
-    ghost use Rattle.nap_values.specs.TwosComplement.{signed_of};
-
     /// Every component is below this limit, and at least its negative.
     pub const LIMIT: i32 = 8_388_608;
 
@@ -296,22 +261,16 @@ impl Move {
     }
 }
 
-/// Every 24-bit number is below this limit.
-const MODULUS: u32 = 16_777_216;
-
-/// Bits from here on stand for a negative number.
-const SIGN: u32 = 8_388_608;
-
 /// Returns the signed number that 24 bits stand for.
 #[inline]
 pub(crate) fn signed(bits: u32) -> i32
     requires { bits < 16777216 }
     ensures { result ≡ signed_of bits }
 {
-    if bits < SIGN {
+    if bits < Point::LIMIT {
         bits as i32
     } else {
-        bits as i32 - MODULUS as i32
+        bits as i32 - 2 * Move::LIMIT
     }
 }
 
@@ -326,6 +285,6 @@ pub(crate) fn bits(number: i32) -> u32
     if number >= 0 {
         number as u32
     } else {
-        (number + MODULUS as i32) as u32
+        (number + 2 * Move::LIMIT) as u32
     }
 }

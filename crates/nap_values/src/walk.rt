@@ -1,14 +1,15 @@
 //! A point that displacements move, one after another.
-ghost use Rattle.std.specs.Prelude.{◌≡◌, unwrap_or, true, take, Some, IfSome};
-ghost use Rattle.nap_values.specs.Coordinates.{displaced_point};
+ghost use Rattle.std.specs.Prelude.{◌≡◌, unwrap_or, true, take, Some, IfSome, ◌<◌};
+ghost use Rattle.nap_values.specs.Coordinates.{displaced_point, Coordinates};
 ghost use Rattle.nap_values.specs.Operands.{multi_of, operand_words};
+ghost use Rattle.nap_values.specs.PackedCoordinates.{x_in, y_in, packed_coordinates};
+ghost use Rattle.nap_values.specs.Coarse.{Course, IsCoarse, IsInside, coarse_point, is_clear};
 
 use crate::packed::PackedWords;
 use crate::point::{Move, Point};
 use std::marker::Model;
 
-/// A point of the unit screen that displacements move, one after another: its coordinates in units of 2^-23, each from
-/// 0 to 8,388,607. The words of x and of y are stored apart, so that only those of a displacement have to be separated.
+/// A point of the unit screen that displacements move. The words of x and y are stored apart, as each step needs them.
 #[derive(Drop)]
 pub struct MovingPoint {
     x: PackedWords,
@@ -16,10 +17,6 @@ pub struct MovingPoint {
 }
 
 impl Model for MovingPoint {
-    ghost use Rattle.std.specs.Prelude.{◌≡◌, ◌<◌};
-    ghost use Rattle.nap_values.specs.Coordinates.{Coordinates};
-    ghost use Rattle.nap_values.specs.PackedCoordinates.{x_in, y_in, packed_coordinates};
-
     ghost Value = { Coordinates };
 
     ghost view = { λ w. record { x = x_in w.x; y = y_in w.y } };
@@ -32,8 +29,6 @@ impl Model for MovingPoint {
 }
 
 impl MovingPoint {
-    ghost use Rattle.nap_values.specs.Coordinates.{displaced_point};
-
     /// Returns a moving point at this point.
     #[inline]
     pub fn from_point(point: Point) -> MovingPoint
@@ -61,12 +56,8 @@ impl MovingPoint {
     }
 }
 
-/// Selects the highest bits of both numbers.
-const SIGNS: u64 = 0x2000_0000_2000_0000;
-
-/// A point that displacements of three words move, one after another. Such a displacement changes only the nine highest
-/// bits of a coordinate, so these are kept side by side in one number, and the rest as it was at the start. Whether all
-/// points on the way were on the unit screen is told at the end.
+/// A point that displacements of three words move. Such a step changes only the nine highest bits of a coordinate, so
+/// these are kept side by side, and the rest as at the start. That all points were on the screen is told at the end.
 #[derive(Drop)]
 pub struct CoarseWalk {
     at: PackedWords,
@@ -76,10 +67,6 @@ pub struct CoarseWalk {
 }
 
 impl Model for CoarseWalk {
-    ghost use Rattle.std.specs.Prelude.{◌≡◌, true};
-    ghost use Rattle.nap_values.specs.PackedCoordinates.{x_in};
-    ghost use Rattle.nap_values.specs.Coarse.{Course, IsCoarse, IsInside, coarse_point, is_clear};
-
     ghost Value = { Course };
 
     ghost view = { λ w. record { point = coarse_point (x_in w.at) w.start; inside = is_clear w.seen } };
@@ -116,7 +103,8 @@ impl CoarseWalk {
     pub fn end(&self) -> Option<Point>
         ensures { IfSome result (λ point. (self.now.inside ≡ true) × (point ≡ self.now.point)) }
     {
-        if self.seen & SIGNS != 0 {
+        // The highest bits of both numbers.
+        if self.seen & 0x2000_0000_2000_0000 != 0 {
             return None;
         }
         Point::from_words(self.start.words().with_coarse_high(self.at))

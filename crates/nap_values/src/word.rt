@@ -1,6 +1,5 @@
 //! The six-bit words that operands are made of.
-
-ghost use Rattle.std.specs.Prelude.{◌≡◌, ◌<◌, ◌%◌, ◌↔◌, IsSome, IfSome};
+ghost use Rattle.std.specs.Prelude.{◌≡◌, ◌<◌, ◌%◌, ◌↔◌, IsSome, IfSome, ℕ};
 
 use std::marker::Model;
 
@@ -9,8 +8,6 @@ use std::marker::Model;
 pub struct Word(u8);
 
 impl Model for Word {
-    ghost use Rattle.std.specs.Prelude.{ℕ, ◌<◌};
-
     ghost Value = { ℕ };
 
     ghost view = { λ w. w.0 };
@@ -32,11 +29,10 @@ impl Word {
         ensures found { IsSome result ↔ (number < 64) }
         ensures value { IfSome result (λ word. word ≡ number) }
     {
-        if number < Self::LIMIT {
-            Some(Word(number))
-        } else {
-            None
+        if number >= Self::LIMIT {
+            return None;
         }
+        Some(Word(number))
     }
 
     /// Returns the word that a byte carries: its low six bits (PROFILE.md, Operands).

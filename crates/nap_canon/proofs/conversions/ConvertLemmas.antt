@@ -1,7 +1,6 @@
 -- The answer of a conversion, by the state of its reader.
 
-use Rattle.nap_canon.proofs.Common.{Answers, AnswersBy, Appends, Appends-kept, Bool, BreaksAmong, BreaksInRun, Broke, Canonical, Cause, Concludes, Consumes, Consumes-nil, ConvertFault, Converts, EndsOutput, Entry, Err, FeedFault, Feeds, FlushedOnce, Ghosts, HasRead, IsKnown, IsPrefixOf, IsTaken, Keeps, LastRead, List, None, Ok, Outcome, Reader, Refusal, Result, Sends, Some, StartsText, StopsAtOnce, Took, Writes, [], ap, append_assoc, arith, begun, begun_comes_first, budget_of, cause_of, device, drop, end_breaks_among, ended_by, false, false≢true, fed_breaks_among, flush_count, header, inl, inr, left_of, length, list_of, means, memory, more_bytes_keep_entries, pieces, pieces_bytes, reading, refl, refusal_of, sending, sending_of, sink_of, start, stream, subst, sym, take, take-append-drop, text, text_end_after_header, true, ℕ, ◌++◌, ◌||◌, ◌∙◌, ◌≡◌, ◌≢◌}
-use Rattle.nap_canon.specs.declared.text.Form.TheVariants.{Two}
+use Rattle.nap_canon.proofs.Common.{AnswersBy, Appends, Appends-kept, Bool, BreaksAmong, BreaksInRun, Broke, Canonical, Cause, Concludes, Consumes, Consumes-nil, ConvertFault, Converts, EndsOutput, Entry, Err, FeedFault, Feeds, FlushedOnce, Ghosts, HasRead, IsKnown, IsPrefixOf, IsTaken, Keeps, LastRead, List, None, Ok, Outcome, Reader, Refusal, Result, Sends, Some, StartsText, StopsAtOnce, Took, Two, Writes, [], ap, append_assoc, arith, begun, begun_comes_first, budget_of, cause_of, device, drop, end_breaks_among, ended_by, false, false≢true, fed_breaks_among, flush_count, header, inl, inr, left_of, length, list_of, means, memory, more_bytes_keep_entries, pieces, pieces_bytes, reading, refl, refusal_of, sending, sending_of, sink_of, start, stream, subst, sym, take, take-append-drop, text, text_end_after_header, true, ℕ, ◌++◌, ◌∙◌, ◌≡◌, ◌≢◌}
 use Rattle.nap_list.specs.declared.device.Inlet as inlet
 use Rattle.nap_list.specs.declared.device.Outlet as outlet
 use Rattle.nap_canon.proofs.conversions.WentOutLemmas.{prefix_refl, Leaves, concluded, leaves_whole, leaves_refused, leaves_cut, leaves_broken}
@@ -10,20 +9,11 @@ use Rattle.nap_canon.proofs.conversions.WentOutLemmas.{prefix_refl, Leaves, conc
 
 module _ {O : Type 0} (o : outlet.Ghosts O) (law : (x : O) → o.write_failed x ≡ true → o.failed x ≡ true) (w : O) (works : o.failed w ≡ false) where
   unfailed : o.write_failed w ≡ false
-  unfailed = by_flag (o.write_failed w) refl
-    where
-      by_flag : (b : Bool) → o.write_failed w ≡ b → o.write_failed w ≡ false
-      by_flag true h = absurd (false≢true (sym works ∙ law w h))
-      by_flag false h = h
+  unfailed = grind (arith, false≢true)
 
   pub flushed_once : (t : Canonical O) (u : O) → Writes (sending o w 0) (sending_of o t) → o.flushes u ≡ flush_count (o.failed t.outlet) (o.flushes t.outlet) →
       o.write_failed u ≡ o.write_failed t.outlet → FlushedOnce o w u
-  flushed_once t u wrote flushes kept =
-      let failed : o.failed t.outlet ≡ wrote.fails = wrote.failed ∙ ap (λ (b : Bool). b || wrote.fails) works in
-      let write_failed : o.write_failed t.outlet ≡ wrote.fails = wrote.write_failed ∙ ap (λ (b : Bool). b || wrote.fails) unfailed in
-      flushes
-      ∙ ap (λ (b : Bool). flush_count b (o.flushes t.outlet)) (failed ∙ sym (kept ∙ write_failed))
-      ∙ ap (flush_count (o.write_failed u)) wrote.flushes
+  flushed_once t u wrote flushes kept = grind (arith, unfailed)
 
 -- what a conversion ensures of the bytes that it read and wrote
 abbrev pub Converted : {I O : Type 0} → inlet.Ghosts I → outlet.Ghosts O → ℕ → I → I → O → O → Result ℕ ConvertFault → Type 0
@@ -37,15 +27,11 @@ Converted i o budget initial final w u answer =
 
 module _ {S : Type 0} {g : Ghosts S} (reader : Reader S g) (s : S) (p : List ℕ) (h : HasRead reader s p) where
   unrefused : (budget : ℕ) → budget_of reader ≡ budget → refusal_of reader ≡ None → IsKnown g s (begun budget p) (sink_of reader) (left_of reader) None
-  unrefused budget same none =
-      subst (λ (b : ℕ). IsKnown g s (begun b p) (sink_of reader) (left_of reader) None) same
-      (subst (Answers g s (budget_of reader) p (sink_of reader) (left_of reader)) none h.answers)
+  unrefused budget same none = grind arith
 
   refused_by : (budget : ℕ) (r : Refusal) → budget_of reader ≡ budget → refusal_of reader ≡ Some r →
       AnswersBy g s budget p (sink_of reader) (left_of reader) r (cause_of r.fault)
-  refused_by budget r same some =
-      subst (λ (b : ℕ). AnswersBy g s b p (sink_of reader) (left_of reader) r (cause_of r.fault)) same
-      (subst (Answers g s (budget_of reader) p (sink_of reader) (left_of reader)) some h.answers)
+  refused_by budget r same some = grind arith
 
 -- a refusal of the stream so far is the refusal of the whole stream
 means_refused : (budget : ℕ) (p : List ℕ) (r : Refusal) → (begun budget p).refusal ≡ Some r → means budget p ≡ begun budget p
@@ -106,10 +92,7 @@ module _ {O : Type 0} (o : outlet.Ghosts O) (w : O) (s : Canonical O) (begins : 
 
     -- the feeding stopped before the end
     pub fed_leaves : (fault : FeedFault) (h : Feeds i old new s p initial final (Err fault)) → Ends h.last (sink_of new) (Err fault)
-    fed_leaves FeedFault.Read h =
-        let known = unrefused new s p h.has_read (budget_of old) same h.ends.1 in
-        leaves_cut o w s begins works (budget_of old) p (reading i initial final) h.last.before (first_of h.last) (sink_of new) h.ends.0 known.refusal
-        (took_is (sink_of new) (begun (budget_of old) p).entries known.taken)
+    fed_leaves FeedFault.Read h = grind (arith, unrefused, leaves_cut, first_of)
     fed_leaves (FeedFault.Refused r) h = at (cause_of r.fault) refl (refused_by new s p h.has_read (budget_of old) r same h.ends.1)
       where
         broken : cause_of r.fault ≢ stream → Ends h.last (sink_of new) (Err (FeedFault.Refused r))
@@ -137,9 +120,7 @@ module _ {O : Type 0} (o : outlet.Ghosts O) (w : O) (s : Canonical O) (begins : 
     -- the stream was read to its end
     module _ (h : Feeds i old new s p initial final (Ok tt)) where
       pub whole_leaves : (t : Canonical O) → (IsTaken g s (means (budget_of new) p) t None) → Ends h.last t (Ok tt)
-      whole_leaves t taken =
-          let here = subst (λ (budget : ℕ). IsTaken g s (means budget p) t None) same taken in
-          leaves_whole o w s begins works (budget_of old) p (reading i initial final) h.last.before (first_of h.last) t h.ends.0 here.0 (took_is t (list_of (budget_of old) p) here.1)
+      whole_leaves t taken = grind (arith, leaves_whole, first_of)
 
       pub end_leaves : (t : Canonical O) (r : Refusal) → (cause_of r.fault ≡ stream → IsTaken g s (means (budget_of new) p) t (Some r)) →
           (cause_of r.fault ≢ stream → BreaksInRun g s (budget_of new) p t r) → Ends h.last t (Err (FeedFault.Refused r))

@@ -1,7 +1,6 @@
 -- The bytes that a conversion wrote are a prefix of the text, and all of it if all was read.
 
-use Rattle.nap_canon.proofs.Common.{Appends, Appends-kept, Bool, BreaksAmong, Broke, Canonical, Cause, Concludes, ConvertFault, Converts, Entry, Err, FeedFault, Form, Ghosts, Grows, IsCutOff, IsPrefixOf, IsReadWhole, Keeps, LacksWithin, List, None, NoneFailed, Ok, Outcome, Reading, Refusal, RefusesBy, Result, Some, StartsText, State, TextEnd, Took, TookPrefix, WantsSome, Writes, [], after, answer_of, ap, append-nil, append_assoc, arith, begun, begun_comes_first, cause_of, count_of, device, drop, entry_bytes, entry_bytes_after, entry_pieces, false, grows_more, header, inl, inr, list_of, means, memory, pieces, pieces_bytes, pieces_bytes-append, refl, sending, sending_of, start, stream, subst, sym, take, take-append-drop, text, text_end_after, text_end_after_header, true, walk, ℕ, ◌++◌, ◌∙◌, ◌∷◌, ◌≡◌, ◌≢◌, ◌⊎◌}
-use Rattle.nap_canon.specs.declared.text.Form.TheVariants.{Two}
+use Rattle.nap_canon.proofs.Common.{Appends, Appends-kept, Bool, BreaksAmong, Broke, Canonical, Cause, Concludes, ConvertFault, Converts, Entry, Err, FeedFault, Form, Ghosts, Grows, IsCutOff, IsPrefixOf, IsReadWhole, Keeps, LacksWithin, List, None, NoneFailed, Ok, Outcome, Reading, Refusal, RefusesBy, Result, Some, StartsText, State, TextEnd, Took, TookPrefix, Two, WantsSome, Writes, [], after, answer_of, ap, append-nil, append_assoc, arith, begun, begun_comes_first, cause_of, count_of, device, drop, entry_bytes_after, entry_pieces, false, grows_more, inl, inr, list_of, means, memory, pieces, pieces_bytes, pieces_bytes-append, refl, sending, sending_of, start, stream, subst, sym, take, take-append-drop, text, text_end_after, text_end_after_header, true, walk, ℕ, ◌++◌, ◌∙◌, ◌∷◌, ◌≡◌, ◌≢◌, ◌⊎◌}
 use Rattle.nap_list.specs.declared.device.Outlet as outlet
 use Rattle.nap_canon.proofs.sinks.SinkingLemmas.{first_of_text, header_sent, sink_writes_text}
 use Rattle.nap_canon.proofs.texts.TextLemmas.{text_of_entries}
@@ -28,14 +27,7 @@ module _ {O : Type 0} (o : outlet.Ghosts O) (w : O) (s : Canonical O) (begins : 
   broke_bytes t d e h = text d ++ take h.part (entry_bytes_after s d e)
 
   broke_text : (t : Canonical O) (d : List Entry) (e : Entry) (h : Broke o s d e t) → Grows (sending o w 0) (broke_bytes t d e h) (sending_of o t)
-  broke_text t d e h =
-      let none = header_sent Two o w s begins works in
-      let part = take h.part (entry_bytes_after s d e) in
-      let bytes = first_of_text Two o w s begins works d in
-      let all : header ++ (entry_bytes s d ++ part) ≡ text d ++ part =
-      ap (λ (bs : List ℕ). header ++ (bs ++ part)) bytes ∙ sym (append_assoc header (pieces_bytes text_end_after_header (pieces Two start d)) part) in
-      subst (λ (bs : List ℕ). Grows (sending o w 0) bs (sending_of o t)) all
-      (grows_more (sending o w 0) (sending_of o s) (sending_of o t) header (entry_bytes s d ++ part) none.grows h.grows)
+  broke_text t d e h = grind (arith, header_sent, first_of_text, append_assoc, grows_more)
 
   -- those bytes are a prefix of the text of any list that continues so
   broke_prefix : (t : Canonical O) (d : List Entry) (e : Entry) (rest : List Entry) (h : Broke o s d e t) → IsPrefixOf (broke_bytes t d e h) (text (d ++ e ∷ rest))
@@ -82,8 +74,7 @@ module _ {O : Type 0} (o : outlet.Ghosts O) (w : O) (s : Canonical O) (begins : 
     concluded t fed u answer (q, out, right) keeps fails ends = (q, Appends-kept _ _ _ q out.grows.taken keeps, at (o.failed u) refl ends, out.written, out.grows.writes)
       where
         works_on : (b : Bool) → o.failed t.outlet ≡ b → o.failed u ≡ false → b ≡ false
-        works_on false is whole = refl
-        works_on true is whole = let bad = sym (fails is) ∙ whole in cc
+        works_on b h h2 = grind arith
 
         at : (failed : Bool) → o.failed u ≡ failed → Concludes t.written fed failed answer → Converts budget p seen q failed answer
         at false is h = rw h (right (works_on (o.failed t.outlet) refl is))
@@ -93,12 +84,7 @@ module _ {O : Type 0} (o : outlet.Ghosts O) (w : O) (s : Canonical O) (begins : 
     took_all : (t : Canonical O) (fed : Result (Unit {0}) FeedFault) (d : List Entry) → Took o s d t → IsPrefixOf d (list_of budget p) →
         IsReadWhole seen p ⊎ IsPrefixOf (text d) (text (begun budget p).entries) → IsPrefixOf (begun budget before).entries d →
         (t.written ≡ count_of (text d) → Converts budget p seen (text d) false (answer_of t.written fed)) → Leaves t fed
-    took_all t fed d took all left known right =
-        let grows = took_text t d took in (
-          text d,
-          record { grows = grows; prefix = text_prefix d (list_of budget p) all; left = left; written = text_prefix (begun budget before).entries d known },
-          λ _. right (counts t (text d) grows),
-        )
+    took_all t fed d took all left known right = grind (arith, took_text, text_prefix, counts)
 
     known_in_whole : IsPrefixOf (begun budget before).entries (list_of budget p)
     known_in_whole = prefix_trans (begun budget before).entries (begun budget p).entries (list_of budget p) known_first (begun_comes_first budget p)
@@ -135,8 +121,7 @@ module _ {O : Type 0} (o : outlet.Ghosts O) (w : O) (s : Canonical O) (begins : 
         (left : (q : List ℕ) → IsPrefixOf q (text end.entries) → IsReadWhole seen p ⊎ IsPrefixOf q (text (begun budget p).entries)) where
       -- the sink itself takes no memory
       own : LacksWithin budget p r.place ⊎ WantsSome g s end.entries → LacksWithin budget p r.place
-      own (inl reader) = reader
-      own (inr (some, rest, parts, wants)) = absurd (wants_none some wants)
+      own h = grind arith
 
       lacks : cause_of r.fault ≡ memory → TookPrefix g s known among.from.more t memory → Leaves t (Err (FeedFault.Refused r))
       lacks is (taken, rest, parts, took) =

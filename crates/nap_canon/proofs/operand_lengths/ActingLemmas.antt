@@ -1,10 +1,8 @@
 -- The opcodes of a plain stream act under operands of eight words and four words.
 
-use Rattle.nap_canon.proofs.Common.{Acting, ActsUnderEightAndFour, All, All-cons, All-head, All-nil, All-tail, AllMayFollow, Bool, CodeSets, DrawFault, Err, Fault, IsPlainCode, LexResult, List, Machine, Mode, None, Ok, Opcode, Option, Outcome, Placed, PlainOperandLengths, Refusal, Result, RuleResult, Some, StreamFront, Work, [], acting_after, acting_at, acting_in, acting_within, after_charge, after_drawing, ap, arith, begun, between, body_of, bytes_of, carried_words, closed_front, code_length, code_rule, code_taken, cond, drawn_front, drop, ended_by, false, front_after_front, front_by, front_in, get_or, length, length-drop, length-map, lex_result, lex_result_by, map, nat_lt, no_names, one_byte_opcode, opcodes_of, opened_front, outcome_by_front, outcome_from, place_at, placed_from, refl, refusal, replicate, rule, run_front, run_length, run_limit, shown_front, start_machine, start_sets, steps_left, stream_front, subst, suc, sym, take, true, zero, ℕ, ◌++◌, ◌+◌, ◌-◌, ◌<◌, ◌∙◌, ◌∷◌, ◌≡◌}
-use Rattle.nap_codes.specs.declared.code.Code.{Code}
-use Rattle.nap_codes.specs.Front as codes
+use Rattle.nap_canon.proofs.Common.{Acting, ActsUnderEightAndFour, All, All-cons, All-head, All-nil, All-tail, AllMayFollow, Bool, Code, CodeSets, DrawFault, Err, Fault, Front, IsPlainCode, List, Machine, Mode, None, Ok, Opcode, Option, Outcome, Placed, PlainOperandLengths, Refusal, Result, RuleResult, StreamFront, Work, [], acting_after, acting_at, acting_in, acting_within, after_charge, after_drawing, ap, arith, begun, between, body_of, bytes_of, carried_words, closed_front, code_length, code_rule, complete, cond, drawn_front, drop, ended_by, false, front, front-nothing, front_after_front, front_by, front_in, get_or, length, length-drop, length-map, lex_result, lex_result-front, lex_result_by, map, nat_lt, no_names, one_byte_opcode, opcode_in_gl, opcodes_of, opened_front, outcome_by_front, outcome_from, place_at, placed_from, refl, refusal, refused, replicate, rule, run_front, run_length, run_limit, shown_front, start_machine, start_sets, steps_left, stream_front, subst, suc, sym, take, true, unfinished, zero, ℕ, ◌++◌, ◌+◌, ◌-◌, ◌<◌, ◌∙◌, ◌∷◌, ◌≡◌}
 use Rattle.nap_reader.specs.Course as course
-use Rattle.nap_canon.proofs.operand_lengths.FrontCodes.{no_front, lexed_front, pdi_in_gl, operands_of, run_codes}
+use Rattle.nap_canon.proofs.operand_lengths.FrontCodes.{operands_of, run_codes}
 use Rattle.nap_canon.proofs.reading.PlacedLemmas.{bytes_of-placed}
 use Rattle.nap_canon.proofs.operand_lengths.StageLemmas.{Stage, before, lengths_are_current, opcode_stage, IsQuiet, quiet_stage, IsActing, code_stage}
 
@@ -28,11 +26,7 @@ record IsBetween (m : Machine) : Type 0 where
   names : m.names ≡ no_names
 
 between_after_drawing : (m : Machine) (d : RuleResult) → IsBetween m → IsBetween (after_drawing m d)
-between_after_drawing m d is_between = record { mode = is_between.mode; names = by d.clears }
-  where
-    by : (clears : Bool) → cond clears no_names m.names ≡ no_names
-    by true = refl
-    by false = is_between.names
+between_after_drawing m d is_between = grind arith
 
 between_with_sets : (m : Machine) (sets : CodeSets) → IsBetween m → IsBetween (record m { sets = sets })
 between_with_sets m sets is_between = record { mode = is_between.mode; names = is_between.names }
@@ -57,7 +51,7 @@ next_plain work w c rest turn asks = record {
 }
 
 nothing_lexed : (sets : CodeSets) → (lex_result sets []).codes ≡ []
-nothing_lexed sets = ap (λ (l : LexResult). l.codes) (lexed_front sets [] ∙ ap (lex_result_by lex_result sets []) (no_front sets))
+nothing_lexed sets = rw (lex_result-front sets [], front-nothing sets [] refl) refl
 
 -- after a run of operands
 
@@ -95,7 +89,7 @@ module _ (fuel : ℕ) (m : Machine) (op : Opcode) (place : ℕ) (xs : List Place
   drawn_goes : (words : List ℕ) (rest : List Placed) (by : Result RuleResult DrawFault) → rule m.work op words ≡ by → ((w : Machine) → Goes fuel w rest) →
       OpcodeGoes fuel m op xs words rest (drawn_front m place rest by)
   unfolding AllMayFollow
-  drawn_goes words rest (Err fault) e ih going asks = let bad : ⊥ = cc in absurd bad
+  drawn_goes words rest (Err fault) e ih going asks = cc
   drawn_goes words rest (Ok d) e ih going asks =
       let list : List Code = (lex_result m.sets (bytes_of rest)).codes in
       let asked : Asks d.work list = record {
@@ -117,19 +111,18 @@ module _ (fuel : ℕ) (m : Machine) (op : Opcode) (place : ℕ) (xs : List Place
   run_goes run rest ih = at (nat_lt run_limit (length run))
     where
       at : (long : Bool) → OpcodeGoes fuel m op xs (carried_words run) rest (cond long (course.refuse (refusal Fault.LongRun place)) (closed_front m op place run rest))
-      at true going asks = let bad : ⊥ = cc in absurd bad
+      at true going asks = cc
       at false going asks = closed_goes run rest ih going asks
 
 opcode_goes : (fuel : ℕ) (m : Machine) (op : Opcode) (xs : List Placed) → IsBetween m → ((w : Machine) (ys : List Placed) → length ys < length xs → Goes fuel w ys) →
-    codes.front m.sets (bytes_of xs) ≡ codes.complete (Code.Op op) 1 m.sets →
-    Going m xs (front_by m xs (codes.complete (Code.Op op) 1 m.sets)) → Asks m.work (Code.Op op ∷ (lex_result m.sets (bytes_of (drop 1 xs))).codes) →
-    Known (record { op = op; lengths = m.work.domain } ∷ acting_after (acting_within fuel) (front_by m xs (codes.complete (Code.Op op) 1 m.sets)))
+    front m.sets (bytes_of xs) ≡ complete (Code.Op op) 1 m.sets →
+    Going m xs (front_by m xs (complete (Code.Op op) 1 m.sets)) → Asks m.work (Code.Op op ∷ (lex_result m.sets (bytes_of (drop 1 xs))).codes) →
+    Known (record { op = op; lengths = m.work.domain } ∷ acting_after (acting_within fuel) (front_by m xs (complete (Code.Op op) 1 m.sets)))
     (Code.Op op ∷ (lex_result m.sets (bytes_of (drop 1 xs))).codes)
 opcode_goes fuel m op [] is_between ih e going asks = absurd (omega (arith, (code_length m.sets [] (Code.Op op) 1 m.sets e).1))
 opcode_goes fuel m op (x ∷ ys) is_between ih e going asks =
-    let names = code_taken m.sets (bytes_of (x ∷ ys)) (Code.Op op) 1 m.sets e in
     let k : ℕ = run_length ys in
-    let cut = run_codes m.sets ys (pdi_in_gl m.sets x.byte op names) in
+    let cut = run_codes m.sets ys (opcode_in_gl m.sets (bytes_of (x ∷ ys)) op 1 m.sets e) in
     let few : length (drop k ys) < length (x ∷ ys) = simp length-drop (omega arith) in
     subst (λ (list : List Code). Known (record { op = op; lengths = m.work.domain } ∷ acting_after (acting_within fuel) (opened_front m op x.place ys)) (Code.Op op ∷ list)) (sym cut)
     (run_goes fuel m op x.place (x ∷ ys) is_between (take k ys) (drop k ys) (λ w. ih w (drop k ys) few) going
@@ -155,14 +148,14 @@ module _ (fuel : ℕ) (m : Machine) (xs : List Placed) (after : CodeSets) (ys : 
 
   acting_goes : (c : Code) (place : ℕ) (by : Result RuleResult DrawFault) → code_rule m.work c ≡ by → IsActing c → opcodes_of (c ∷ later) ≡ opcodes_of later →
       CodeGoes c (drawn_front shifted place ys by)
-  acting_goes c place (Err fault) e acting same going asks = let bad : ⊥ = cc in absurd bad
+  acting_goes c place (Err fault) e acting same going asks = cc
   acting_goes c place (Ok d) e acting same going asks =
       let known = ih (after_drawing shifted d) (between_after_drawing shifted d (between_with_sets m after is_between)) going (next_plain m.work d.work c later (code_stage m.work c later d e acting) asks) in
       record { all = known.all ∙ sym same; each = known.each }
 
   -- the call of a macro that isn't bound
   call_goes : (name place : ℕ) (body : List ℕ) → body ≡ [] → CodeGoes (Code.Call name) (shown_front shifted place body ys)
-  call_goes name place (b ∷ bs) is going asks = let bad : ⊥ = cc in absurd bad
+  call_goes name place (b ∷ bs) is going asks = cc
   call_goes name place [] is going asks = at (nat_lt m.left 0) going
     where
       next : Machine
@@ -170,7 +163,7 @@ module _ (fuel : ℕ) (m : Machine) (xs : List Placed) (after : CodeSets) (ys : 
 
       at : (less : Bool) → Going m xs (cond less (course.refuse (refusal Fault.Budget place)) (course.act [] next ys)) →
           Known (acting_after (acting_within fuel) (cond less (course.refuse (refusal Fault.Budget place)) (course.act [] next ys))) (Code.Call name ∷ later)
-      at true going = let bad : ⊥ = cc in absurd bad
+      at true going = cc
       at false going =
           let known = ih next (record { mode = is_between.mode; names = is_between.names }) going
           (next_plain m.work m.work (Code.Call name) later (quiet_stage m.work m.work (Code.Call name) later tt refl refl refl) asks) in
@@ -194,17 +187,17 @@ bytes_of-drop (suc n) (x ∷ xs) = bytes_of-drop n xs
 module _ (fuel : ℕ) (m : Machine) (xs : List Placed) (is_between : IsBetween m) (ih : (w : Machine) (ys : List Placed) → length ys < length xs → Goes fuel w ys) where
   abbrev ByCode : Code → ℕ → CodeSets → Type 0
   ByCode c n after =
-      Going m xs (front_by m xs (codes.complete c n after)) → Asks m.work (c ∷ (lex_result after (bytes_of (drop n xs))).codes) →
-      Known (acting_at m (codes.complete c n after) ++ acting_after (acting_within fuel) (front_by m xs (codes.complete c n after)))
+      Going m xs (front_by m xs (complete c n after)) → Asks m.work (c ∷ (lex_result after (bytes_of (drop n xs))).codes) →
+      Known (acting_at m (complete c n after) ++ acting_after (acting_within fuel) (front_by m xs (complete c n after)))
       (c ∷ (lex_result after (bytes_of (drop n xs))).codes)
 
-  by_code : (c : Code) (n : ℕ) (after : CodeSets) → codes.front m.sets (bytes_of xs) ≡ codes.complete c n after → length (drop n xs) < length xs → ByCode c n after
+  by_code : (c : Code) (n : ℕ) (after : CodeSets) → front m.sets (bytes_of xs) ≡ complete c n after → length (drop n xs) < length xs → ByCode c n after
   by_code (Code.Op op) n after e less going asks =
       let one = one_byte_opcode m.sets (bytes_of xs) op n after e in
-      let there : codes.front m.sets (bytes_of xs) ≡ codes.complete (Code.Op op) 1 m.sets = e ∙ rw (one.0, one.1) refl in
+      let there : front m.sets (bytes_of xs) ≡ complete (Code.Op op) 1 m.sets = e ∙ rw (one.0, one.1) refl in
       subst (λ (k : ℕ). ByCode (Code.Op op) k after) (sym one.0)
       (subst (ByCode (Code.Op op) 1) (sym one.1) (opcode_goes fuel m op xs is_between ih there)) going asks
-  by_code (Code.Operand word) n after e less going asks = let bad : ⊥ = cc in absurd bad
+  by_code (Code.Operand word) n after e less going asks = cc
   by_code (Code.DefMacro name show) n after e less going asks = absurd (All-head IsPlainCode (Code.DefMacro name show) _ asks.each)
   by_code Code.Fill n after e less going asks = idle_goes fuel m xs after (drop n xs) is_between (λ w. ih w (drop n xs) less) Code.Fill tt refl going asks
   by_code Code.Shifted n after e less going asks = idle_goes fuel m xs after (drop n xs) is_between (λ w. ih w (drop n xs) less) Code.Shifted tt refl going asks
@@ -215,16 +208,16 @@ module _ (fuel : ℕ) (m : Machine) (xs : List Placed) (is_between : IsBetween m
   by_code c n after e less going asks =
       acting_goes fuel m xs after (drop n xs) is_between (λ w. ih w (drop n xs) less) c (place_at xs (n - 1)) (code_rule m.work c) refl tt refl going asks
 
-  by_front : (f : codes.Front) → codes.front m.sets (bytes_of xs) ≡ f → Going m xs (front_by m xs f) → Asks m.work (lex_result_by lex_result m.sets (bytes_of xs) f).codes →
+  by_front : (f : Front) → front m.sets (bytes_of xs) ≡ f → Going m xs (front_by m xs f) → Asks m.work (lex_result_by lex_result m.sets (bytes_of xs) f).codes →
       Known (acting_at m f ++ acting_after (acting_within fuel) (front_by m xs f)) (lex_result_by lex_result m.sets (bytes_of xs) f).codes
-  by_front codes.unfinished e going asks = known_nothing
-  by_front (codes.refused fault i) e going asks = let bad : ⊥ = cc in absurd bad
-  by_front (codes.complete c n after) e going asks =
+  by_front unfinished e going asks = known_nothing
+  by_front (refused fault i) e going asks = cc
+  by_front (complete c n after) e going asks =
       let some = code_length m.sets (bytes_of xs) c n after e in
       let size : length (bytes_of xs) ≡ length xs = length-map xs _ in
       let less : length (drop n xs) < length xs = simp length-drop (omega (arith, some.0, some.1, size)) in
       let cut = ap (λ (bs : List ℕ). c ∷ (lex_result after bs).codes) (bytes_of-drop n xs) in
-      subst (Known (acting_at m (codes.complete c n after) ++ acting_after (acting_within fuel) (front_by m xs (codes.complete c n after)))) (sym cut)
+      subst (Known (acting_at m (complete c n after) ++ acting_after (acting_within fuel) (front_by m xs (complete c n after)))) (sym cut)
       (by_code c n after e less going (subst (Asks m.work) cut asks))
 
   -- the statement for the front, in this mode
@@ -234,14 +227,7 @@ module _ (fuel : ℕ) (m : Machine) (xs : List Placed) (is_between : IsBetween m
 
   step : (outcome_from m xs).refusal ≡ None → Asks m.work (lex_result m.sets (bytes_of xs)).codes → Known (acting_within (suc fuel) m xs) (lex_result m.sets (bytes_of xs)).codes
   unfolding acting_within stream_front
-  step going asks =
-      let bytes : List ℕ = bytes_of xs in
-      let front_is : codes.Front = codes.front m.sets bytes in
-      let codes_are = ap (λ (l : LexResult). l.codes) (lexed_front m.sets bytes) in
-      let between_codes : ByMode between = λ going.
-      subst (Known (acting_at m front_is ++ acting_after (acting_within fuel) (front_by m xs front_is))) (sym codes_are)
-      (by_front front_is refl going (subst (Asks m.work) codes_are asks)) in
-      subst ByMode (sym is_between.mode) between_codes (ap (λ (o : Outcome). o.refusal) (sym (front_after_front m xs)) ∙ going)
+  step going asks = grind (arith, lex_result-front, by_front, front_after_front)
 
 goes : (fuel : ℕ) (m : Machine) (xs : List Placed) → length xs < fuel → Goes fuel m xs
 goes zero m xs few is_between = absurd (omega (arith, few))
@@ -250,8 +236,7 @@ goes (suc fuel) m xs few is_between = step fuel m xs is_between (λ w ys less. g
 -- a stream
 
 not_refused : (n : ℕ) (o : Outcome) (r : Option Refusal) → o.refusal ≡ r → (ended_by o n r).refusal ≡ None → o.refusal ≡ None
-not_refused n o None e ended = e
-not_refused n o (Some r) e ended = ended
+not_refused n o r h h2 = grind arith
 
 pub plain_operand_lengths : PlainOperandLengths
 plain_operand_lengths budget p plain accepted =

@@ -1,7 +1,6 @@
 -- The stage of a plain stream, and the operand lengths under which its opcodes act.
 
-use Rattle.nap_canon.proofs.Common.{All, All-head, All-tail, Bool, DomainFirst, DomainNext, DrawFault, Entry, Err, IsNoOpcode, LengthsNext, List, MayFollowCode, None, Ok, Opcode, OpenDefinition, OperandLengths, Option, ResetNext, Result, RuleResult, Some, Work, [], arith, code_rule, cond, definition_ended, definition_ended_by, definition_opened, domain_rule, false, inl, inr, nat_tests, refl, rule, rule_result, start_domain, subst, sym, true, walk, with_domain, ℕ, ⊤, ◌%◌, ◌++◌, ◌==◌, ◌∙◌, ◌∷◌, ◌≡◌, ◌≢◌, ◌⊎◌}
-use Rattle.nap_codes.specs.declared.code.Code.{Code}
+use Rattle.nap_canon.proofs.Common.{All, All-head, All-tail, Code, DomainFirst, DomainNext, DrawFault, Entry, Err, IsNoOpcode, LengthsNext, List, MayFollowCode, None, Ok, Opcode, OpenDefinition, OperandLengths, Option, ResetNext, Result, RuleResult, Work, [], arith, code_rule, cond, definition_ended, definition_ended_by, definition_opened, domain_rule, inl, inr, nat_tests, refl, rule, rule_result, start_domain, subst, sym, walk, with_domain, ℕ, ⊤, ◌%◌, ◌++◌, ◌==◌, ◌∙◌, ◌∷◌, ◌≡◌, ◌≢◌, ◌⊎◌}
 use Rattle.nap_canon.proofs.operand_lengths.FrontCodes.{operands_of}
 use Rattle.nap_canon.proofs.operand_lengths.KeepingLemmas.{KeepsBy, rule_keeps, code_keeps}
 
@@ -27,40 +26,28 @@ pub data Stage (work : Work) (list : List Code) : Type 0 where
 
 domain_alone : (op : Opcode) (list : List Code) → DomainNext (Code.Op op ∷ list) → op ≡ Opcode.Domain
 unfolding DomainNext
-domain_alone Opcode.Domain list next = refl
-domain_alone _ list next = absurd next
+domain_alone op list h = grind arith
 
 pub lengths_are_current : (work : Work) (op : Opcode) (list : List Code) → Stage work (Code.Op op ∷ list) → op ≢ Opcode.Domain → work.domain ≡ eight_and_four
 unfolding DomainFirst
-lengths_are_current work op list (before closed first) no_domain = absurd (no_domain first)
-lengths_are_current work op list (defining none) no_domain = absurd (All-head IsNoOpcode (Code.Op op) list none)
-lengths_are_current work op list (after_domain (inl is) back) no_domain = is
-lengths_are_current work op list (after_domain (inr next) back) no_domain = absurd (no_domain (domain_alone op list next))
+lengths_are_current work op list h h2 = grind (arith, All-head, domain_alone)
 
 comes_back : (work w : Work) → w.saved ≡ work.saved → w.state.definition ≡ work.state.definition → ComesBack work → ComesBack w
-comes_back work w saved definition (inl is) = inl (saved ∙ is)
-comes_back work w saved definition (inr is) = inr (definition ∙ is)
+comes_back work w h h2 h3 = grind arith
 
 -- DOMAIN
 
 domain_drawn : (work : Work) (word : ℕ) (words : List ℕ) (d : RuleResult) → word ≡ 31 → domain_rule work (word ∷ words) ≡ Ok d →
     rule_result (with_domain work eight_and_four words) [] ≡ d
-domain_drawn work word words d is by =
-    let there : ◌≡◌ {A = Result RuleResult DrawFault} (Ok (rule_result (with_domain work eight_and_four words) [])) (Ok d) = subst (λ (w : ℕ). domain_rule work (w ∷ words) ≡ Ok d) is by in
-    cc
+domain_drawn work word words d is by = grind arith
 
 domain_stage : (work : Work) (run : List ℕ) (rest : List Code) (d : RuleResult) → domain_rule work run ≡ Ok d → LengthsNext (operands_of run ++ rest) → ComesBack work →
     Stage d.work rest
 unfolding walk
-domain_stage work [] rest d by next back = let bad : ⊥ = cc in absurd bad
-domain_stage work (word ∷ words) rest d by next back =
-    let is : rule_result (with_domain work eight_and_four words) [] ≡ d = domain_drawn work word words d next by in
-    subst (λ (x : RuleResult). Stage x.work rest) is (after_domain (inl refl) (comes_back work (rule_result (with_domain work eight_and_four words) []).work refl refl back))
+domain_stage work run rest d h h2 h3 = grind (arith, domain_drawn, comes_back)
 
 before_domain : (work : Work) (op : Opcode) (list : List Code) → Stage work (Code.Op op ∷ list) → ComesBack work
-before_domain work op list (before closed first) = inr closed
-before_domain work op list (defining none) = absurd (All-head IsNoOpcode (Code.Op op) list none)
-before_domain work op list (after_domain lengths back) = back
+before_domain work op list h = grind (arith, All-head)
 
 -- RESET
 
@@ -71,11 +58,7 @@ next_after_operands (word ∷ words) rest next = next_after_operands words rest 
 
 reset_lengths : (domain : OperandLengths) (word : ℕ) (words : List ℕ) (rest : List Code) → domain ≡ eight_and_four → ResetNext (operands_of (word ∷ words) ++ rest) →
     (cond (word % 2 == 1) start_domain domain ≡ eight_and_four) ⊎ DomainNext rest
-reset_lengths domain word words rest domain_set next = at (word % 2 == 1) refl
-  where
-    at : (back : Bool) → (word % 2 == 1) ≡ back → (cond back start_domain domain ≡ eight_and_four) ⊎ DomainNext rest
-    at true e = let odd : word % 2 ≡ 1 = grind (arith, nat_tests) in inr (next_after_operands words rest (next odd))
-    at false e = inl domain_set
+reset_lengths domain word words rest domain_set next = grind (arith, nat_tests, next_after_operands)
 
 -- the stage after the result of a rule, if it has one
 abbrev StageBy : Result RuleResult DrawFault → List Code → Type 0
@@ -86,8 +69,7 @@ reset_stage : (work : Work) (run : List ℕ) (rest : List Code) → work.domain 
     StageBy (rule work Opcode.Reset run) rest
 unfolding walk
 reset_stage work [] rest domain_set next back = after_domain (inl domain_set) back
-reset_stage work (word ∷ words) rest domain_set next back =
-    after_domain (reset_lengths work.domain word words rest domain_set next) back
+reset_stage work (word ∷ words) rest domain_set next back = grind (arith, reset_lengths)
 
 -- any opcode
 
@@ -97,18 +79,14 @@ pub data OpcodeKind (op : Opcode) : Type 0 where
   is_other : op ≢ Opcode.Domain → op ≢ Opcode.Reset → OpcodeKind op
 
 opcode_kind : (op : Opcode) → OpcodeKind op
-opcode_kind Opcode.Domain = is_domain refl
-opcode_kind Opcode.Reset = is_reset refl
-opcode_kind _ = is_other (λ e. let bad : ⊥ = cc in bad) (λ e. let bad : ⊥ = cc in bad)
+opcode_kind op = grind arith
 
 kept_stage : (work : Work) (by : Result RuleResult DrawFault) (rest : List Code) → KeepsBy work by → work.domain ≡ eight_and_four → ComesBack work → StageBy by rest
-kept_stage work (Ok d) rest keeps domain_set back = after_domain (inl (keeps.domain ∙ domain_set)) (comes_back work d.work keeps.saved keeps.definition back)
-kept_stage work (Err fault) rest keeps domain_set back = tt
+kept_stage work by rest h h2 h3 = grind (arith, comes_back)
 
 domain_by : (work : Work) (run : List ℕ) (by : Result RuleResult DrawFault) (rest : List Code) → domain_rule work run ≡ by → LengthsNext (operands_of run ++ rest) →
     ComesBack work → StageBy by rest
-domain_by work run (Ok d) rest e next back = domain_stage work run rest d e next back
-domain_by work run (Err fault) rest e next back = tt
+domain_by work run by rest h h2 h3 = grind (arith, domain_stage)
 
 opcode_by : (work : Work) (op : Opcode) (run : List ℕ) (rest : List Code) → Stage work (Code.Op op ∷ operands_of run ++ rest) →
     MayFollowCode (Code.Op op) (operands_of run ++ rest) → OpcodeKind op → StageBy (rule work op run) rest
@@ -118,7 +96,7 @@ opcode_by work op run rest stage comes (is_domain is) =
     subst (λ (o : Opcode). StageBy (rule work o run) rest) (sym is) (domain_by work run (domain_rule work run) rest refl next back)
 opcode_by work op run rest stage comes (is_reset is) =
     let back = before_domain work op (operands_of run ++ rest) stage in
-    let domain_set = lengths_are_current work op (operands_of run ++ rest) stage (λ e. let bad : ⊥ = cc in bad) in
+    let domain_set = lengths_are_current work op (operands_of run ++ rest) stage (λ e. cc) in
     let next : ResetNext (operands_of run ++ rest) = subst (λ (o : Opcode). MayFollowCode (Code.Op o) (operands_of run ++ rest)) is comes in
     subst (λ (o : Opcode). StageBy (rule work o run) rest) (sym is) (reset_stage work run rest domain_set next back)
 opcode_by work op run rest stage comes (is_other no_domain no_reset) =
@@ -144,19 +122,11 @@ IsQuiet _ = ⊤
 
 first_after : (c : Code) (rest : List Code) → IsQuiet c → DomainFirst (c ∷ rest) → DomainFirst rest
 unfolding DomainFirst
-first_after (Code.Op op) rest quiet first = absurd quiet
-first_after (Code.Operand word) rest quiet first = absurd quiet
-first_after (Code.DefMacro name show) rest quiet first = absurd quiet
-first_after (Code.DefGlyph byte) rest quiet first = absurd quiet
-first_after (Code.DefMask mask) rest quiet first = absurd quiet
-first_after Code.End rest quiet first = absurd quiet
-first_after _ rest quiet first = first
+first_after c rest quiet first = grind arith
 
 no_domain_next : (c : Code) (rest : List Code) → IsQuiet c → DomainNext (c ∷ rest) → ⊥
 unfolding DomainNext
-no_domain_next (Code.Op op) rest quiet next = quiet
-no_domain_next (Code.Operand word) rest quiet next = quiet
-no_domain_next _ rest quiet next = next
+no_domain_next c rest quiet next = grind arith
 
 pub quiet_stage : (work w : Work) (c : Code) (rest : List Code) → IsQuiet c → w.domain ≡ work.domain → w.saved ≡ work.saved →
     w.state.definition ≡ work.state.definition → Stage work (c ∷ rest) → Stage w rest
@@ -169,36 +139,28 @@ quiet_stage work w c rest quiet domain saved definition (after_domain (inr next)
 
 ended_lengths : (work : Work) (opened : Option OpenDefinition) → work.state.definition ≡ opened → work.domain ≡ eight_and_four → ComesBack work →
     (definition_ended_by work opened).work.domain ≡ eight_and_four
-ended_lengths work None e domain_set back = domain_set
-ended_lengths work (Some opened) e domain_set (inl is) = is
-ended_lengths work (Some opened) e domain_set (inr closed) = let bad : ⊥ = cc in absurd bad
+ended_lengths work opened h h2 h3 = grind arith
 
 ended_back : (work : Work) (opened : Option OpenDefinition) → work.state.definition ≡ opened → ComesBack work → ComesBack (definition_ended_by work opened).work
 unfolding walk
-ended_back work None e back = back
-ended_back work (Some opened) e (inl is) = inl is
-ended_back work (Some opened) e (inr closed) = inr refl
+ended_back work opened h h2 = grind arith
 
 ended_closed : (work : Work) (opened : Option OpenDefinition) → work.state.definition ≡ opened → (definition_ended_by work opened).work.state.definition ≡ None
 unfolding walk
-ended_closed work None e = e
-ended_closed work (Some opened) e = refl
+ended_closed work opened h = grind arith
 
 pub opens_stage : (work : Work) (c : Code) (rest : List Code) (e : Entry) → (DomainFirst (c ∷ rest) → All IsNoOpcode rest) → (DomainNext (c ∷ rest) → ⊥) →
     Stage work (c ∷ rest) → Stage (definition_opened (definition_ended work) e).work rest
 opens_stage work c rest e first_none next_none (before closed first) = defining (first_none first)
 opens_stage work c rest e first_none next_none (defining none) = defining (All-tail IsNoOpcode c rest none)
-opens_stage work c rest e first_none next_none (after_domain (inl is) back) =
-    let domain_set = ended_lengths work work.state.definition refl is back in
-    after_domain (inl domain_set) (inl domain_set)
+opens_stage work c rest e first_none next_none (after_domain (inl is) back) = grind (arith, ended_lengths)
 opens_stage work c rest e first_none next_none (after_domain (inr next) back) = absurd (next_none next)
 
 pub end_stage : (work : Work) (rest : List Code) → Stage work (Code.End ∷ rest) → Stage (definition_ended work).work rest
 unfolding DomainFirst DomainNext
 end_stage work rest (before closed first) = before (ended_closed work work.state.definition refl) first
 end_stage work rest (defining none) = defining (All-tail IsNoOpcode Code.End rest none)
-end_stage work rest (after_domain (inl is) back) =
-    after_domain (inl (ended_lengths work work.state.definition refl is back)) (ended_back work work.state.definition refl back)
+end_stage work rest (after_domain (inl is) back) = grind (arith, ended_lengths, ended_back)
 end_stage work rest (after_domain (inr next) back) = absurd next
 
 quiet_by : (work : Work) (c : Code) (rest : List Code) (by : Result RuleResult DrawFault) → IsQuiet c → KeepsBy work by → Stage work (c ∷ rest) → StageBy by rest

@@ -1,7 +1,6 @@
 -- The rules of plain streams that a check still has for the codes to come.
 
-use Rattle.nap_canon.proofs.Common.{All, All-cons, All-head, All-nil, All-tail, AllMayFollow, ArePlain, Bool, CodeSet, CodesSeen, DomainFirst, DomainNext, Expected, IsNoOpcode, IsPlainCode, LengthsNext, List, MayFollowCode, None, Opcode, Option, PlainCheck, ResetNext, Some, [], arith, check_after, check_of_parts, cond, expected_after, expected_after_any, false, is_plain_code, lengths_word, may_end, may_end_at, nat_tests, refl, reset_word, seen_after, true, ℕ, ⊤, ◌%◌, ◌==◌, ◌↔◌, ◌∷◌, ◌≡◌}
-use Rattle.nap_codes.specs.declared.code.Code.{Code}
+use Rattle.nap_canon.proofs.Common.{All, All-cons, All-head, All-nil, All-tail, AllMayFollow, ArePlain, Bool, Code, CodesSeen, DomainFirst, DomainNext, Expected, IsNoOpcode, IsPlainCode, LengthsNext, List, MayFollowCode, None, Opcode, Option, PlainCheck, ResetNext, Some, [], arith, check_after, check_of_parts, expected_after, expected_after_any, false, is_plain_code, lengths_word, may_end, may_end_at, nat_tests, refl, reset_word, seen_after, true, ℕ, ⊤, ◌↔◌, ◌∷◌, ◌≡◌}
 
 -- the rule of the first opcode
 abbrev AsksFirst : CodesSeen → List Code → Type 0
@@ -38,20 +37,14 @@ IsDecided code true = IsPlainCode code
 IsDecided code false = IsPlainCode code → ⊥
 
 plain_decided : (code : Code) → IsDecided code (is_plain_code code)
-plain_decided (Code.DefMacro name show) = λ h. h
-plain_decided (Code.Designated number CodeSet.Macros) = λ h. h
-plain_decided (Code.Op Opcode.PointSetRel) = λ h. h
-plain_decided (Code.Op Opcode.PointRel) = λ h. h
-plain_decided (Code.Op Opcode.LineRel) = λ h. h
-plain_decided (Code.Op Opcode.SetLineRel) = λ h. h
-plain_decided _ = tt
+plain_decided code = grind arith
 
 -- the first opcode
 
 first_turns : (b : CodesSeen) (code : Code) → Turns AsksFirst b code (seen_after b code)
 unfolding DomainFirst
 first_turns CodesSeen.Nothing (Code.Op Opcode.Domain) = λ rest. (λ h. tt, λ h. refl)
-first_turns CodesSeen.Nothing (Code.Op _) = λ rest is. let bad : ⊥ = cc in bad
+first_turns CodesSeen.Nothing (Code.Op _) = λ rest is. cc
 first_turns CodesSeen.Nothing (Code.DefGlyph byte) = λ rest. (λ h. h, λ h. h)
 first_turns CodesSeen.Nothing (Code.DefMask mask) = λ rest. (λ h. h, λ h. h)
 first_turns CodesSeen.Nothing _ = λ rest. (λ h. h, λ h. h)
@@ -62,9 +55,7 @@ first_turns CodesSeen.Drawing code = λ rest. (λ h. tt, λ h. tt)
 -- the next code
 
 comes : (code : Code) (rest : List Code) → MayFollowCode code rest ↔ AsksNext (expected_after_any code) rest
-comes (Code.Op Opcode.Domain) rest = (λ h. h, λ h. h)
-comes (Code.Op Opcode.Reset) rest = (λ h. h, λ h. h)
-comes _ rest = (λ h. tt, λ h. tt)
+comes code rest = grind arith
 
 any_turns : (code : Code) (rest : List Code) → AllMayFollow (code ∷ rest) ↔ AsksFollowing (expected_after_any code) rest
 unfolding AllMayFollow
@@ -72,30 +63,15 @@ any_turns code rest = (λ h. ((comes code rest).0 h.0, h.1), λ h. ((comes code 
 
 lengths_turn : (word : ℕ) → Turns AsksFollowing Expected.Lengths (Code.Operand word) (lengths_word word)
 unfolding AllMayFollow
-lengths_turn word = at (word == 31) refl
-  where
-    at : (same : Bool) → (word == 31) ≡ same → Turns AsksFollowing Expected.Lengths (Code.Operand word) (cond same (Some Expected.Any) None)
-    at true e = λ rest. (λ h. (tt, h.1.1), λ h. (grind (arith, nat_tests), (tt, h.1)))
-    at false e = λ rest h. let is : word ≡ 31 = h.0 in let bad : ⊥ = grind (arith, nat_tests) in bad
+lengths_turn word = grind (arith, nat_tests)
 
 reset_turns : (word : ℕ) → Turns AsksFollowing Expected.ResetWord (Code.Operand word) (Some (reset_word word))
 unfolding AllMayFollow
-reset_turns word = at (word % 2 == 1) refl
-  where
-    at : (odd : Bool) → (word % 2 == 1) ≡ odd → Turns AsksFollowing Expected.ResetWord (Code.Operand word) (Some (cond odd Expected.Domain Expected.Any))
-    at true e = λ rest. (λ h. (h.0 (grind (arith, nat_tests)), h.1.1), λ h. (λ is. h.0, (tt, h.1)))
-    at false e = λ rest. (λ h. (tt, h.1.1), λ h. (λ is. let bad : ⊥ = grind (arith, nat_tests) in absurd bad, (tt, h.1)))
+reset_turns word = grind (arith, nat_tests)
 
 next_turns : (n : Expected) (code : Code) → Turns AsksFollowing n code (expected_after n code)
 unfolding AllMayFollow DomainNext
-next_turns Expected.Any code = λ rest. (λ h. (any_turns code rest).0 h.1, λ h. (tt, (any_turns code rest).1 h))
-next_turns Expected.Lengths (Code.Operand word) = lengths_turn word
-next_turns Expected.Lengths _ = λ rest h. h.0
-next_turns Expected.ResetWord (Code.Operand word) = reset_turns word
-next_turns Expected.ResetWord code = λ rest. (λ h. (any_turns code rest).0 h.1, λ h. (tt, (any_turns code rest).1 h))
-next_turns Expected.Domain (Code.Operand word) = λ rest. (λ h. (h.0, h.1.1), λ h. (h.0, (tt, h.1)))
-next_turns Expected.Domain (Code.Op Opcode.Domain) = λ rest. (λ h. h.1, λ h. (tt, h))
-next_turns Expected.Domain _ = λ rest h. h.0
+next_turns n code = grind (arith, any_turns, lengths_turn, reset_turns)
 
 -- all rules together
 
@@ -121,9 +97,7 @@ joined check code true None None decided first follow = λ rest asks. first rest
 joined check code false b n decided first follow = λ rest asks. decided (All-head IsPlainCode code rest asks.each)
 
 pub check_turns : (check : PlainCheck) (code : Code) → Turns Asks check code (check_after check code)
-check_turns check code =
-    joined check code (is_plain_code code) (seen_after check.begun code) (expected_after check.next code)
-    (plain_decided code) (first_turns check.begun code) (next_turns check.next code)
+check_turns check code = grind (arith, joined, plain_decided, first_turns, next_turns)
 
 -- at the start
 
@@ -131,18 +105,13 @@ abbrev pub start_check : PlainCheck
 start_check = record { begun = CodesSeen.Nothing; next = Expected.Any }
 
 pub all_asked : (list : List Code) → ArePlain list ↔ Asks start_check list
-all_asked list = (
-  λ plain. record { each = plain.each; first = plain.first; next = tt; follow = plain.follow },
-  λ asks. record { each = asks.each; first = asks.first; follow = asks.follow },
-)
+all_asked list = grind arith
 
 -- at the end
 
 first_met : (b : CodesSeen) → AsksFirst b []
 unfolding DomainFirst
-first_met CodesSeen.Nothing = tt
-first_met CodesSeen.Definition = All-nil IsNoOpcode
-first_met CodesSeen.Drawing = tt
+first_met b = grind (arith, All-nil)
 
 abbrev IsMet : Expected → Bool → Type 0
 IsMet n true = AsksNext n []
@@ -150,15 +119,11 @@ IsMet n false = AsksNext n [] → ⊥
 
 next_met : (n : Expected) → IsMet n (may_end_at n)
 unfolding DomainNext
-next_met Expected.Any = tt
-next_met Expected.ResetWord = tt
-next_met Expected.Lengths = λ h. h
-next_met Expected.Domain = λ h. h
+next_met n = grind arith
 
 end_met : (check : PlainCheck) (met : Bool) → IsMet check.next met → (met ≡ true) ↔ Asks check []
 unfolding AllMayFollow
-end_met check true is = (λ e. record { each = All-nil IsPlainCode; first = first_met check.begun; next = is; follow = tt }, λ asks. refl)
-end_met check false is = (λ e. let bad : ⊥ = cc in absurd bad, λ asks. absurd (is asks.next))
+end_met check met h = grind (arith, All-nil, first_met)
 
 pub nothing_asked : (check : PlainCheck) → (may_end check ≡ true) ↔ Asks check []
 nothing_asked check = end_met check (may_end check) (next_met check.next)

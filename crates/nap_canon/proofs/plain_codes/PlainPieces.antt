@@ -1,10 +1,7 @@
 -- Pieces of canonical text spell plain codes.
 
-use Rattle.nap_canon.proofs.Common.{All, All-append, All-cons, All-head, All-nil, All-tail, AllMayFollow, Bool, CharSet, CodeSet, DomainNext, GSet, IsAbsolute, IsGraphic, IsOperandByte, IsPlainCode, IsWord, List, MayFollowCode, None, Opcode, Piece, Some, Spells, TextEnd, [], append-nil, append_assoc, arith, char_piece, control, domain, false, gl_of, group, joins_open_run, left_out_opcode, length, map, non_pdi_code, number_rows, opcode, opcode_rows, piece_bytes, pieces_bytes, pieces_bytes-append, primary, refl, row_of, set_rows, shift_to_opcodes, shift_to_primary, subst, sym, text_end_after, text_end_after-append, true, with_set, word_byte, ℕ, ◌++◌, ◌-◌, ◌<◌, ◌∷◌, ◌≡◌}
-use Rattle.nap_codes.specs.declared.code.Code.{Code}
-use Rattle.nap_codes.specs.declared.code_set.GSet.TheVariants.{G0, G1, G2, G3}
+use Rattle.nap_canon.proofs.Common.{All, All-append, All-cons, All-head, All-nil, All-tail, AllMayFollow, Bool, CharSet, Code, CodeSet, DomainNext, G0, G1, GSet, InRun, IsAbsolute, IsGraphic, IsOperandByte, IsPlainCode, IsWord, List, MayFollowCode, NoRun, None, Opcode, Piece, Some, Spells, TextEnd, [], append-nil, append_assoc, arith, char_piece, control, domain, false, gl_of, group, joins_open_run, left_out_opcode, length, map, non_pdi_code, number_rows, opcode, opcode_rows, piece_bytes, pieces_bytes, pieces_bytes-append, primary, refl, row_of, set_rows, shift_to_opcodes, shift_to_primary, subst, sym, text_end_after, text_end_after-append, true, with_set, word_byte, ℕ, ◌++◌, ◌-◌, ◌<◌, ◌∷◌, ◌≡◌}
 use Rattle.nap_codes.specs.Spelling as spells
-use Rattle.nap_canon.specs.declared.text_end.TextEnd.TheVariants.{NoRun, InRun}
 use Rattle.nap_canon.proofs.reading.PieceLemmas.{sets_with}
 use Rattle.nap_canon.proofs.plain_codes.SpellingLemmas.{AllSpelled, no_code, one_code, spelled_alone, spelled_after}
 
@@ -24,12 +21,7 @@ no_bytes gl = record { list = []; by = no_code; each = All-nil IsPlainCode; join
 -- the bytes of one code
 code_bytes : (gl end : GSet) (bytes : List ℕ) (c : Code) → Spells (sets_with gl) bytes c (sets_with end) → IsPlainCode c → ((rest : List Code) → MayFollowCode c rest) → PlainBytes gl bytes end
 unfolding AllMayFollow
-code_bytes gl end bytes c by plain comes = record {
-  list = c ∷ [];
-  by = spelled_alone by;
-  each = All-cons IsPlainCode c [] plain (All-nil IsPlainCode);
-  joins = λ rest h. (comes rest, h);
-}
+code_bytes gl end bytes c by plain comes = grind (arith, spelled_alone, All-cons, All-nil)
 
 both_bytes : (gl mid end : GSet) (xs ys : List ℕ) → PlainBytes gl xs mid → PlainBytes mid ys end → PlainBytes gl (xs ++ ys) end
 both_bytes gl mid end xs ys first second = record {
@@ -49,25 +41,17 @@ unfolding pieces_bytes text_end_after
 nothing_plain t = no_bytes (gl_of t)
 
 pub codes_after_plain : (t : TextEnd) (ps qs : List Piece) → PlainlySpelled t ps → PlainlySpelled (text_end_after t ps) qs → PlainlySpelled t (ps ++ qs)
-codes_after_plain t ps qs first second =
-    let mid : TextEnd = text_end_after t ps in
-    subst (λ (bs : List ℕ). PlainBytes (gl_of t) bs (gl_of (text_end_after t (ps ++ qs)))) (sym (pieces_bytes-append t ps qs))
-    (subst (λ (u : TextEnd). PlainBytes (gl_of t) (pieces_bytes t ps ++ pieces_bytes mid qs) (gl_of u)) (sym (text_end_after-append t ps qs))
-    (both_bytes (gl_of t) (gl_of mid) (gl_of (text_end_after mid qs)) (pieces_bytes t ps) (pieces_bytes mid qs) first second))
+codes_after_plain t ps qs first second = grind (arith, pieces_bytes-append, text_end_after-append, both_bytes)
 
 -- shifts
 
 shifts_out : (gl : GSet) → PlainBytes gl (shift_to_opcodes gl) G1
 shifts_out G1 = no_bytes G1
-shifts_out G0 = code_bytes G0 G1 (0x0E ∷ []) Code.Shifted spells.shift_out tt (λ rest. tt)
-shifts_out G2 = code_bytes G2 G1 (0x0E ∷ []) Code.Shifted spells.shift_out tt (λ rest. tt)
-shifts_out G3 = code_bytes G3 G1 (0x0E ∷ []) Code.Shifted spells.shift_out tt (λ rest. tt)
+shifts_out gl = code_bytes gl G1 (0x0E ∷ []) Code.Shifted spells.shift_out tt (λ rest. tt)
 
 shifts_in : (gl : GSet) → PlainBytes gl (shift_to_primary gl) G0
 shifts_in G0 = no_bytes G0
-shifts_in G1 = code_bytes G1 G0 (0x0F ∷ []) Code.Shifted spells.shift_in tt (λ rest. tt)
-shifts_in G2 = code_bytes G2 G0 (0x0F ∷ []) Code.Shifted spells.shift_in tt (λ rest. tt)
-shifts_in G3 = code_bytes G3 G0 (0x0F ∷ []) Code.Shifted spells.shift_in tt (λ rest. tt)
+shifts_in gl = code_bytes gl G0 (0x0F ∷ []) Code.Shifted spells.shift_in tt (λ rest. tt)
 
 -- an opcode with its operands
 

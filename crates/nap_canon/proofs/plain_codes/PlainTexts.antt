@@ -1,8 +1,6 @@
 -- The text of a list is plain.
 
-use Rattle.nap_canon.proofs.Common.{All, All-cons, AllMayFollow, ArePlain, DomainFirst, Entry, Form, IsPlainCode, LexResult, List, Opcode, OperandLengths, Piece, State, TextEnd, TextIsPlain, [], after, ap, append-nil, arith, attributes, command_piece, entry_pieces, gl_of, group, inl, inr, left_out_opcode, map, opcode_rows, pieces, pieces_bytes, prelude, refl, row_of, spelling_pieces, start, start_domain, start_sets, subst, sym, text_end_after, text_end_after_header, text_in, with_attributes, ◌++◌, ◌∷◌}
-use Rattle.nap_codes.specs.declared.code.Code.{Code}
-use Rattle.nap_codes.specs.declared.code_set.GSet.TheVariants.{G1}
+use Rattle.nap_canon.proofs.Common.{All, All-cons, AllMayFollow, ArePlain, Code, DomainFirst, Entry, Form, G1, IsPlainCode, LexResult, List, Opcode, OperandLengths, Piece, State, TextEnd, TextIsPlain, [], after, ap, append-nil, arith, attributes, command_piece, entry_pieces, gl_of, group, inl, inr, left_out_opcode, map, opcode_rows, pieces, pieces_bytes, prelude, refl, row_of, spelling_pieces, start, start_domain, start_sets, subst, sym, text_end_after, text_end_after_header, text_in, with_attributes, ◌++◌, ◌∷◌}
 use Rattle.nap_codes.specs.Spelling as spells
 use Rattle.nap_canon.proofs.spelling.CommandLemmas.{work_at}
 use Rattle.nap_canon.proofs.reading.ConveyLemmas.{convey_plain}

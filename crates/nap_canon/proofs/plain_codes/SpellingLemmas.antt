@@ -1,9 +1,6 @@
 -- The codes that the pieces of canonical text spell.
 
-use Rattle.nap_canon.proofs.Common.{CodeSets, List, None, Spells, [], ap, append-nil, append_assoc, arith, code_is_spelled, drop-append_seam, front, length, length-append, lex_result, lex_result_by, subst, sym, take-append_seam, ℕ, ◌++◌, ◌∙◌, ◌∷◌, ◌≡◌, ◌≤◌}
-use Rattle.nap_codes.specs.declared.code.Code.{Code}
-use Rattle.nap_codes.specs.Front as fronts
-use Rattle.nap_canon.proofs.operand_lengths.FrontCodes.{no_front, with_code, lexed_front}
+use Rattle.nap_canon.proofs.Common.{Code, CodeSets, List, None, Spells, [], append-nil, append_assoc, arith, code_is_spelled, complete, front, front-nothing, length, lex_result, lex_result-code, lex_result-front, refl, subst, sym, take_all, ℕ, ◌++◌, ◌∷◌, ◌≡◌}
 
 -- under these code sets, these bytes spell these codes, one after another
 pub data AllSpelled : CodeSets → List ℕ → List Code → CodeSets → Type 0 where
@@ -23,17 +20,11 @@ spelled_after {sets = sets} {end = end} {ys = ys} {second = second} (one_code {b
 
 -- lexing gives the codes that are spelled
 
-complete_code : (sets : CodeSets) (bytes rest : List ℕ) (code : Code) (after : CodeSets) → Spells sets bytes code after →
-    front sets (bytes ++ rest) ≡ fronts.complete code (length bytes) after
-complete_code sets bytes rest code after by =
-    let few : length bytes ≤ length (bytes ++ rest) = omega (arith, length-append bytes rest) in
-    (code_is_spelled sets (bytes ++ rest) code (length bytes) after).1 (few, subst (λ (bs : List ℕ). Spells sets bs code after) (sym (take-append_seam bytes rest)) by)
+pub complete_code : (sets : CodeSets) (bytes : List ℕ) (code : Code) (after : CodeSets) → Spells sets bytes code after → front sets bytes ≡ complete code (length bytes) after
+complete_code sets bytes code after by =
+    (code_is_spelled sets bytes code (length bytes) after).1 (omega arith, subst (λ (bs : List ℕ). Spells sets bs code after) (sym (take_all (length bytes) bytes (omega arith))) by)
 
 pub lexed_spelled : (sets : CodeSets) (bytes : List ℕ) (list : List Code) (end : CodeSets) → AllSpelled sets bytes list end →
     lex_result sets bytes ≡ record { codes = list; fault = None; state = record { sets = end; half = [] } }
-lexed_spelled sets bytes list end no_code = lexed_front sets [] ∙ ap (lex_result_by lex_result sets []) (no_front sets)
-lexed_spelled sets bytes list end (one_code {after = after} {bytes = xs} {rest = rest} {code = code} {more = more} by others) =
-    lexed_front sets (xs ++ rest)
-    ∙ ap (lex_result_by lex_result sets (xs ++ rest)) (complete_code sets xs rest code after by)
-    ∙ ap (λ (bs : List ℕ). with_code code (lex_result after bs)) (drop-append_seam xs rest)
-    ∙ ap (with_code code) (lexed_spelled after rest more end others)
+lexed_spelled sets bytes list end no_code = rw (lex_result-front sets [], front-nothing sets [] refl) refl
+lexed_spelled sets bytes list end (one_code {after = after} {bytes = xs} {rest = rest} {code = code} {more = more} by others) = grind (arith, lex_result-code, complete_code, (lexed_spelled after rest more end others))

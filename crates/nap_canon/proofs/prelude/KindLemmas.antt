@@ -1,6 +1,6 @@
 -- The prelude for the attributes of each kind of entry.
 
-use Rattle.nap_canon.proofs.Common.{Colour, Command, Displacement, Drawing, Ink, List, Pen, Some, ap, append-nil, append_assoc, colour_only, colour_prelude, ink_attributes, pel_prelude, pen_only, pen_prelude, point_attributes, prelude, sym, text_prelude, texture_prelude, ◌++◌, ◌∙◌, ◌≡◌}
+use Rattle.nap_canon.proofs.Common.{Colour, Command, Displacement, Drawing, Ink, List, Pen, Some, ap, append-nil, append_assoc, arith, colour_only, colour_prelude, ink_attributes, pel_prelude, pen_only, pen_prelude, point_attributes, prelude, sym, text_prelude, texture_prelude, ◌++◌, ◌≡◌}
 
 pub prelude_of_point : (d : Drawing) (pel : Displacement) (colour : Colour) → prelude d (point_attributes pel colour) ≡ pel_prelude d.pel (Some pel) ++ colour_prelude d.base d.colour (Some colour)
 unfolding prelude pen_prelude texture_prelude text_prelude
@@ -8,13 +8,7 @@ prelude_of_point d pel colour = ap (λ (cs : List Command). pel_prelude d.pel (S
 
 pub prelude_of_ink : (d : Drawing) (ink : Ink) → prelude d (point_attributes ink.pel ink.colour) ++ texture_prelude d.texture (Some ink.texture) ≡ prelude d (ink_attributes ink)
 unfolding prelude pen_prelude text_prelude
-prelude_of_ink d ink =
-    let pel : List Command = pel_prelude d.pel (Some ink.pel) in
-    let colour : List Command = colour_prelude d.base d.colour (Some ink.colour) in
-    let texture : List Command = texture_prelude d.texture (Some ink.texture) in
-    ap (λ (cs : List Command). cs ++ texture) (prelude_of_point d ink.pel ink.colour)
-    ∙ append_assoc pel colour texture
-    ∙ ap (λ (cs : List Command). pel ++ (colour ++ cs)) (sym (append-nil texture))
+prelude_of_ink d ink = grind (arith, prelude_of_point, append_assoc, append-nil)
 
 pub prelude_of_colour : (d : Drawing) (colour : Colour) → colour_prelude d.base d.colour (Some colour) ≡ prelude d (colour_only colour)
 unfolding prelude pen_prelude pel_prelude texture_prelude text_prelude

@@ -1,17 +1,17 @@
 -- Commands that lead from some attributes to others.
 
-use Rattle.nap_canon.proofs.Common.{All, All-append, All-cons, All-nil, Bool, Colour, Command, Drawing, HasSixteenBitParts, IsAddress, IsInRange, IsInSquare, IsWord, List, [], ap, effect, effects, false, refl, subst, sym, true, unless, ⊤, ◌++◌, ◌∙◌, ◌∷◌, ◌≡◌}
+use Rattle.nap_canon.proofs.Common.{All, All-append, All-cons, All-nil, Bool, Colour, Command, Drawing, HasSixteenBitParts, IsAddress, IsInRange, IsInSquare, IsWord, List, [], ap, arith, effect, effects, refl, subst, sym, true, unless, ⊤, ◌++◌, ◌∙◌, ◌∷◌, ◌≡◌}
 
 abbrev pub CommandInRange : Command → Type 0
-CommandInRange (Command.PointSet p) = IsInSquare p
-CommandInRange (Command.Pel m) = IsInRange m
-CommandInRange (Command.SelectFront a) = IsAddress a
-CommandInRange (Command.SelectPair a b) = IsAddress a × IsAddress b
-CommandInRange (Command.SetColor grb) = HasSixteenBitParts grb
-CommandInRange (Command.Texture word) = IsWord word
-CommandInRange (Command.TextureMask word m) = IsWord word × IsInRange m
-CommandInRange (Command.Text first second) = IsWord first × IsWord second
-CommandInRange (Command.TextSize first second m) = IsWord first × IsWord second × IsInRange m
+CommandInRange (Command.point_set p) = IsInSquare p
+CommandInRange (Command.pel m) = IsInRange m
+CommandInRange (Command.select_front a) = IsAddress a
+CommandInRange (Command.select_pair a b) = IsAddress a × IsAddress b
+CommandInRange (Command.set_color grb) = HasSixteenBitParts grb
+CommandInRange (Command.texture word) = IsWord word
+CommandInRange (Command.texture_mask word m) = IsWord word × IsInRange m
+CommandInRange (Command.text first second) = IsWord first × IsWord second
+CommandInRange (Command.text_size first second m) = IsWord first × IsWord second × IsInRange m
 CommandInRange _ = ⊤
 
 -- a colour of mode 0, which SET COLOR sets
@@ -22,7 +22,7 @@ IsModeZero _ = ⊥
 
 -- The command has its effect on these attributes.
 abbrev pub Takes : Command → Drawing → Type 0
-Takes (Command.SetColor grb) d = IsModeZero d.colour
+Takes (Command.set_color grb) d = IsModeZero d.colour
 Takes _ d = ⊤
 
 -- each command of a list has its effect, after those before it
@@ -59,5 +59,4 @@ module _ (R : Type 0) where
   }
 
   pub unless_leads : (same : Bool) (xs : List Command) (d e : Drawing) → (same ≡ true → d ≡ e) → Leads R xs d e → Leads R (unless same xs) d e
-  unless_leads true xs d e is leads = none_leads d e (is refl)
-  unless_leads false xs d e is leads = leads
+  unless_leads same xs d e h h2 = grind (arith, none_leads)

@@ -1,6 +1,6 @@
 -- The base is the colour of mode 0, after every walk of entries that fit.
 
-use Rattle.nap_canon.proofs.Common.{AllFit, Base, Bool, Colour, ColourFits, Coordinates, Drawing, Entry, Fits, List, ModeZeroIsBase, None, OpenDefinition, Option, Origin, PreludeLeads, Preset, Some, State, [], after, attributes, base_after, colour_code, cond, definition_after, effect_on_drawing, false, length, refl, restored_drawing, slice_get, start, true, unwrap_or, walk, with_attributes, with_pen_at, ⊤, ◌-◌, ◌==◌, ◌∷◌}
+use Rattle.nap_canon.proofs.Common.{AllFit, Base, Bool, Colour, ColourFits, Coordinates, Drawing, Entry, Fits, List, ModeZeroIsBase, None, OpenDefinition, Option, Origin, PreludeLeads, Preset, Some, State, [], after, arith, attributes, base_after, colour_code, cond, definition_after, effect_on_drawing, length, refl, restored_drawing, slice_get, start, unwrap_or, walk, with_pen_at, ⊤, ◌-◌, ◌==◌, ◌∷◌}
 use Rattle.nap_canon.proofs.prelude.PreludeLemmas as preludes
 
 abbrev SavedInMode : Option OpenDefinition → Type 0
@@ -13,28 +13,18 @@ pub record IsInMode (s : State) : Type 0 where
   pub definition : SavedInMode s.definition
 
 taking_in_mode : (d : Drawing) (w : Option Colour) → ModeZeroIsBase d.base d.colour → ColourFits d w → ModeZeroIsBase (base_after d.base w) (unwrap_or w d.colour)
-taking_in_mode d None h fits = h
-taking_in_mode d (Some (Colour.Own origin)) h fits = fits
-taking_in_mode d (Some (Colour.Direct grb)) h fits = refl
-taking_in_mode d (Some (Colour.Front a)) h fits = tt
-taking_in_mode d (Some (Colour.Pair a b)) h fits = tt
-taking_in_mode d (Some (Colour.ByReset preset)) h fits = tt
+taking_in_mode d w h h2 = grind arith
 
 reset_in_mode : (a b c : Bool) (base : Base) (colour : Colour) → ModeZeroIsBase base colour →
     ModeZeroIsBase (cond a (Base.Own Origin.AfterReset) base)
     (cond a (Colour.Own Origin.AfterReset) (cond b (Colour.ByReset Preset.Two) (cond c (Colour.ByReset Preset.Three) colour)))
-reset_in_mode true b c base colour h = refl
-reset_in_mode false true c base colour h = tt
-reset_in_mode false false true base colour h = tt
-reset_in_mode false false false base colour h = h
+reset_in_mode a b c base colour h = grind arith
 
 pen_in_mode : (p : Option Coordinates) (d : Drawing) → ModeZeroIsBase d.base d.colour → ModeZeroIsBase (with_pen_at p d).base (with_pen_at p d).colour
-pen_in_mode None d h = h
-pen_in_mode (Some p) d h = h
+pen_in_mode p d h = grind arith
 
 saved_in_mode : (o : Option OpenDefinition) (d : Drawing) → SavedInMode o → ModeZeroIsBase d.base d.colour → ModeZeroIsBase (restored_drawing o d).base (restored_drawing o d).colour
-saved_in_mode None d s h = h
-saved_in_mode (Some opened) d s h = s
+saved_in_mode o d h h2 = grind arith
 
 drawn_in_mode : (o : Option OpenDefinition) (d : Drawing) (e : Entry) → SavedInMode o → ModeZeroIsBase d.base d.colour → ModeZeroIsBase (effect_on_drawing o d e).base (effect_on_drawing o d e).colour
 drawn_in_mode o d (Entry.Arc filled points ink) s h = pen_in_mode (slice_get points (length points - 1)) d h
@@ -45,18 +35,10 @@ drawn_in_mode o d Entry.DefEnd s h = saved_in_mode o d s h
 drawn_in_mode o d e s h = h
 
 definition_in_mode : (o : Option OpenDefinition) (d : Drawing) (e : Entry) → SavedInMode o → ModeZeroIsBase d.base d.colour → SavedInMode (definition_after o d e)
-definition_in_mode o d (Entry.GlyphStart code) s h = h
-definition_in_mode o d (Entry.MaskStart mask) s h = h
-definition_in_mode o d Entry.DefEnd s h = tt
-definition_in_mode o d e s h = s
+definition_in_mode o d e h h2 = grind arith
 
 pub in_mode_after : (s : State) (e : Entry) → IsInMode s → Fits s e → IsInMode (after s e)
-in_mode_after s e h fits =
-    let taken = taking_in_mode s.drawing (attributes e).colour h.drawing fits.values.colour in
-    record {
-      drawing = drawn_in_mode s.definition (with_attributes s.drawing (attributes e)) e h.definition taken;
-      definition = definition_in_mode s.definition (with_attributes s.drawing (attributes e)) e h.definition taken;
-    }
+in_mode_after s e h fits = grind (arith, taking_in_mode, drawn_in_mode, definition_in_mode)
 
 in_mode_along : (s : State) (es : List Entry) → IsInMode s → AllFit s es → IsInMode (walk s es)
 unfolding walk AllFit

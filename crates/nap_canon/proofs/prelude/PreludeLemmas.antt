@@ -1,6 +1,6 @@
 -- The prelude makes the attributes of an entry current. Its commands are in range if these are.
 
-use Rattle.nap_canon.proofs.Common.{Attributes, AttributesFit, AttributesInRange, Base, Bool, CharSize, Colour, ColourFits, ColourInRange, Command, Components, Displacement, Drawing, Flag, HasSixteenBitParts, IfSome, IsInRange, IsWord, List, MaskFits, ModeZeroIsBase, None, Option, Pen, PenFits, PenInRange, SizeInRange, Some, TextInRange, TextLook, Texture, TextureFits, TextureInRange, [], ap, arith, base_after, base_commands, colour_of_base, colour_prelude, cond, false, flag_commands, given_size_commands, look_with_flag, mask_commands, named_size_commands, nat_tests, pel_prelude, pen_prelude, prelude, refl, same_base, same_colour, same_flag, same_move, same_pen, same_size, same_texture, subst, sym, text_prelude, texture_prelude, true, unless, unwrap_or, with_attributes, words_commands, ℕ, ◌&&◌, ◌++◌, ◌==◌, ◌∙◌, ◌∷◌, ◌≡◌}
+use Rattle.nap_canon.proofs.Common.{Attributes, AttributesFit, AttributesInRange, Base, Bool, CharSize, Colour, ColourFits, ColourInRange, Command, Components, Displacement, Drawing, Flag, HasSixteenBitParts, IfSome, IsInRange, IsWord, MaskFits, ModeZeroIsBase, None, Option, Pen, PenFits, PenInRange, SizeInRange, Some, TextInRange, TextLook, Texture, TextureFits, TextureInRange, [], ap, arith, base_after, base_commands, colour_of_base, colour_prelude, cond, false, flag_commands, given_size_commands, look_with_flag, mask_commands, named_size_commands, nat_tests, pel_prelude, pen_prelude, prelude, refl, same_size, same_texture, subst, text_prelude, texture_prelude, true, unwrap_or, with_attributes, words_commands, ℕ, ◌∷◌, ◌≡◌}
 use Rattle.nap_canon.proofs.prelude.EqualityLemmas.{move_is, pen_is, colour_is, base_is, size_is, texture_is, flag_is}
 use Rattle.nap_canon.proofs.prelude.LeadingLemmas.{Leads, none_leads, one_leads, both_leads, unless_leads}
 
@@ -26,46 +26,25 @@ flag_of Flag.Wrap t = t.wrap
 flag_of Flag.Scroll t = t.scroll
 
 flag_same : (f : Flag) (t : TextLook) → look_with_flag f (flag_of f t) t ≡ t
-flag_same Flag.Reverse t = refl
-flag_same Flag.Underline t = refl
-flag_same Flag.Wrap t = refl
-flag_same Flag.Scroll t = refl
+flag_same f t = grind arith
 
 module _ (R : Type 0) where
   pen_leads : (d : Drawing) (w : Option Pen) → PenFits d.pen w → (R → IfSome w PenInRange) → Leads R (pen_prelude d.pen w) d (record d { pen = unwrap_or w d.pen })
   unfolding pen_prelude
-  pen_leads d None fits inside = none_leads R d d refl
-  pen_leads d (Some (Pen.At p)) fits inside =
-      let end : Drawing = record d { pen = Pen.At p } in
-      unless_leads R (same_pen d.pen (Pen.At p)) (Command.PointSet p ∷ []) d end (λ e. ap (λ (x : Pen). record d { pen = x }) (pen_is d.pen (Pen.At p) e))
-      (one_leads R (Command.PointSet p) d end refl tt inside)
-  pen_leads d (Some Pen.Start) fits inside =
-      let same : d ≡ record d { pen = Pen.Start } = ap (λ (x : Pen). record d { pen = x }) fits in
-      unless_leads R (same_pen d.pen Pen.Start) [] d (record d { pen = Pen.Start }) (λ e. same) (none_leads R d (record d { pen = Pen.Start }) same)
-  pen_leads d (Some Pen.After) fits inside =
-      let same : d ≡ record d { pen = Pen.After } = ap (λ (x : Pen). record d { pen = x }) fits in
-      unless_leads R (same_pen d.pen Pen.After) [] d (record d { pen = Pen.After }) (λ e. same) (none_leads R d (record d { pen = Pen.After }) same)
+  pen_leads d w h h2 = grind (arith, none_leads, unless_leads, pen_is, one_leads)
 
   pel_leads : (d : Drawing) (w : Option Displacement) → (R → IfSome w IsInRange) → Leads R (pel_prelude d.pel w) d (record d { pel = unwrap_or w d.pel })
   unfolding pel_prelude
-  pel_leads d None inside = none_leads R d d refl
-  pel_leads d (Some m) inside =
-      unless_leads R (same_move d.pel m) (Command.Pel m ∷ []) d (record d { pel = m }) (λ e. ap (λ (x : Displacement). record d { pel = x }) (move_is d.pel m e))
-      (one_leads R (Command.Pel m) d (record d { pel = m }) refl tt inside)
+  pel_leads d w h = grind (arith, none_leads, unless_leads, move_is, one_leads)
 
   -- the colour
 
   mode_leads : (d : Drawing) (base : Base) (old : Colour) → ModeZeroIsBase base old → Leads R (base_commands old) (colours_at base old d) (colours_at base (colour_of_base base) d)
-  mode_leads d base (Colour.Own origin) h = none_leads R _ _ (ap (λ (b : Base). colours_at base (colour_of_base b) d) (sym h))
-  mode_leads d base (Colour.Direct grb) h = none_leads R _ _ (ap (λ (b : Base). colours_at base (colour_of_base b) d) (sym h))
-  mode_leads d base (Colour.Front a) h = one_leads R Command.SelectBase _ _ refl tt (λ r. tt)
-  mode_leads d base (Colour.Pair a b) h = one_leads R Command.SelectBase _ _ refl tt (λ r. tt)
-  mode_leads d base (Colour.ByReset preset) h = one_leads R Command.SelectBase _ _ refl tt (λ r. tt)
+  mode_leads d base old h = grind (arith, none_leads, one_leads)
 
   paints : (d : Drawing) (base : Base) (grb : Components) → (R → HasSixteenBitParts grb) →
-      Leads R (Command.SetColor grb ∷ []) (colours_at base (colour_of_base base) d) (colours_at (Base.Direct grb) (Colour.Direct grb) d)
-  paints d (Base.Own origin) grb inside = one_leads R (Command.SetColor grb) _ _ refl tt inside
-  paints d (Base.Direct old) grb inside = one_leads R (Command.SetColor grb) _ _ refl tt inside
+      Leads R (Command.set_color grb ∷ []) (colours_at base (colour_of_base base) d) (colours_at (Base.Direct grb) (Colour.Direct grb) d)
+  paints d base grb h = grind (arith, one_leads)
 
   module _ (d : Drawing) (base : Base) (old : Colour) (h : ModeZeroIsBase base old) where
     abbrev from : Drawing
@@ -75,46 +54,17 @@ module _ (R : Type 0) where
         Leads R (colour_prelude base old w) from (colours_at (base_after base w) (unwrap_or w old) d)
     unfolding colour_prelude
     colour_leads None fits inside = none_leads R from from refl
-    colour_leads (Some (Colour.Own origin)) fits inside =
-        let end : Drawing = colours_at base (Colour.Own origin) d in
-        unless_leads R (same_colour old (Colour.Own origin)) (Command.SelectBase ∷ []) from end
-        (λ e. ap (λ (c : Colour). colours_at base c d) (colour_is old (Colour.Own origin) e))
-        (one_leads R Command.SelectBase from end (ap (λ (b : Base). colours_at base (colour_of_base b) d) fits) tt (λ r. tt))
-    colour_leads (Some (Colour.Direct grb)) fits inside =
-        let mid : Drawing = colours_at base (colour_of_base base) d in
-        let end : Drawing = colours_at (Base.Direct grb) (Colour.Direct grb) d in
-        let last : List Command = unless (same_base base (Base.Direct grb)) (Command.SetColor grb ∷ []) in
-        unless_leads R (same_colour old (Colour.Direct grb)) (base_commands old ++ last) from end
-        (λ e.
-        let is = colour_is old (Colour.Direct grb) e in
-        ap (λ (c : Colour). colours_at base c d) is ∙ ap (λ (b : Base). colours_at b (Colour.Direct grb) d) (subst (ModeZeroIsBase base) is h))
-        (both_leads R (base_commands old) last from mid end (mode_leads d base old h)
-        (unless_leads R (same_base base (Base.Direct grb)) (Command.SetColor grb ∷ []) mid end
-        (λ t. ap (λ (b : Base). colours_at b (colour_of_base b) d) (base_is base (Base.Direct grb) t)) (paints d base grb inside)))
-    colour_leads (Some (Colour.Front a)) fits inside =
-        let end : Drawing = colours_at base (Colour.Front a) d in
-        unless_leads R (same_colour old (Colour.Front a)) (Command.SelectFront a ∷ []) from end
-        (λ e. ap (λ (c : Colour). colours_at base c d) (colour_is old (Colour.Front a) e)) (one_leads R (Command.SelectFront a) from end refl tt inside)
-    colour_leads (Some (Colour.Pair a b)) fits inside =
-        let end : Drawing = colours_at base (Colour.Pair a b) d in
-        unless_leads R (same_colour old (Colour.Pair a b)) (Command.SelectPair a b ∷ []) from end
-        (λ e. ap (λ (c : Colour). colours_at base c d) (colour_is old (Colour.Pair a b) e)) (one_leads R (Command.SelectPair a b) from end refl tt inside)
-    colour_leads (Some (Colour.ByReset preset)) fits inside =
-        let end : Drawing = colours_at base (Colour.ByReset preset) d in
-        let same : from ≡ end = ap (λ (c : Colour). colours_at base c d) fits in
-        unless_leads R (same_colour old (Colour.ByReset preset)) [] from end (λ e. same) (none_leads R from end same)
+    colour_leads (Some (Colour.Own origin)) fits inside = grind (arith, unless_leads, colour_is, one_leads)
+    colour_leads (Some (Colour.Direct grb)) fits inside = grind (arith, unless_leads, colour_is, both_leads, mode_leads, base_is, paints)
+    colour_leads (Some (Colour.Front a)) fits inside = grind (arith, unless_leads, colour_is, one_leads)
+    colour_leads (Some (Colour.Pair a b)) fits inside = grind (arith, unless_leads, colour_is, one_leads)
+    colour_leads (Some (Colour.ByReset preset)) fits inside = grind (arith, unless_leads, none_leads)
 
   -- the texture
 
   mask_leads : (d : Drawing) (was word : ℕ) (old new : Option Displacement) → MaskFits (record { word = was; mask = old }) new → (R → IsWord word) → (R → IfSome new IsInRange) →
       Leads R (mask_commands word old new) (textured was old d) (textured word new d)
-  mask_leads d was word old None fits first second = one_leads R (Command.Texture word) _ _ (ap (λ (m : Option Displacement). textured word m d) fits) tt first
-  mask_leads d was word None (Some m) fits first second = one_leads R (Command.TextureMask word m) _ _ refl tt (λ r. (first r, second r))
-  mask_leads d was word (Some a) (Some m) fits first second = at (same_move a m) refl
-    where
-      at : (b : Bool) → same_move a m ≡ b → Leads R (cond b (Command.Texture word ∷ []) (Command.TextureMask word m ∷ [])) (textured was (Some a) d) (textured word (Some m) d)
-      at true e = one_leads R (Command.Texture word) _ _ (ap (λ (x : Displacement). textured word (Some x) d) (move_is a m e)) tt first
-      at false e = one_leads R (Command.TextureMask word m) _ _ refl tt (λ r. (first r, second r))
+  mask_leads d was word old new h h2 h3 = grind (arith, one_leads, move_is)
 
   texture_leads : (d : Drawing) (w : Option Texture) → TextureFits d.texture w → (R → IfSome w TextureInRange) →
       Leads R (texture_prelude d.texture w) d (record d { texture = unwrap_or w d.texture })
@@ -128,14 +78,7 @@ module _ (R : Type 0) where
   -- the text attributes
 
   words_leads : (d : Drawing) (old t : TextLook) → (R → IsWord t.first × IsWord t.second) → Leads R (words_commands old t) (looking old d) (looking (record old { first = t.first; second = t.second }) d)
-  words_leads d old t inside =
-      let end : Drawing = looking (record old { first = t.first; second = t.second }) d in
-      unless_leads R (old.first == t.first && old.second == t.second) (Command.Text t.first t.second ∷ []) (looking old d) end
-      (λ e.
-      let a : old.first ≡ t.first = grind (arith, nat_tests) in
-      let b : old.second ≡ t.second = grind (arith, nat_tests) in
-      ap (λ (x : ℕ). looking (record old { first = x }) d) a ∙ ap (λ (y : ℕ). looking (record old { first = t.first; second = y }) d) b)
-      (one_leads R (Command.Text t.first t.second) (looking old d) end refl tt inside)
+  words_leads d old t inside = grind (arith, nat_tests, unless_leads, one_leads)
 
   given_leads : (d : Drawing) (old t : TextLook) (size : CharSize) → (R → IsWord t.first × IsWord t.second) → (R → SizeInRange size) →
       Leads R (given_size_commands old t size) (looking old d) (looking (record old { first = t.first; second = t.second; size = given_or old.size size }) d)
@@ -143,26 +86,18 @@ module _ (R : Type 0) where
   given_leads d old t (CharSize.Given m) words inside = at (same_size old.size (CharSize.Given m)) refl
     where
       at : (b : Bool) → same_size old.size (CharSize.Given m) ≡ b →
-          Leads R (cond b (words_commands old t) (Command.TextSize t.first t.second m ∷ [])) (looking old d)
+          Leads R (cond b (words_commands old t) (Command.text_size t.first t.second m ∷ [])) (looking old d)
           (looking (record old { first = t.first; second = t.second; size = CharSize.Given m }) d)
       at true e =
           subst (λ (s : CharSize). Leads R (words_commands old t) (looking old d) (looking (record old { first = t.first; second = t.second; size = s }) d))
           (size_is old.size (CharSize.Given m) e) (words_leads d old t words)
-      at false e = one_leads R (Command.TextSize t.first t.second m) _ _ refl tt (λ r. ((words r).0, (words r).1, inside r))
+      at false e = one_leads R (Command.text_size t.first t.second m) _ _ refl tt (λ r. ((words r).0, (words r).1, inside r))
 
   named_leads : (d : Drawing) (t : TextLook) (old size : CharSize) → t.size ≡ given_or old size → Leads R (named_size_commands old size) (looking t d) (looking (record t { size = size }) d)
-  named_leads d t old (CharSize.Given m) is = none_leads R _ _ (ap (λ (s : CharSize). looking (record t { size = s }) d) is)
-  named_leads d t old (CharSize.Named size) is =
-      let end : Drawing = looking (record t { size = CharSize.Named size }) d in
-      unless_leads R (same_size old (CharSize.Named size)) (Command.Named size ∷ []) (looking t d) end
-      (λ e. ap (λ (s : CharSize). looking (record t { size = s }) d) (is ∙ size_is old (CharSize.Named size) e))
-      (one_leads R (Command.Named size) (looking t d) end refl tt (λ r. tt))
+  named_leads d t old size h = grind (arith, none_leads, unless_leads, size_is, one_leads)
 
   flag_leads : (d : Drawing) (f : Flag) (t : TextLook) (on : Bool) → Leads R (flag_commands f (flag_of f t) on) (looking t d) (looking (look_with_flag f on t) d)
-  flag_leads d f t on =
-      unless_leads R (same_flag (flag_of f t) on) (Command.Flag f on ∷ []) (looking t d) (looking (look_with_flag f on t) d)
-      (λ e. ap (λ (x : TextLook). looking x d) (sym (flag_same f t)) ∙ ap (λ (b : Bool). looking (look_with_flag f b t) d) (flag_is (flag_of f t) on e))
-      (one_leads R (Command.Flag f on) (looking t d) (looking (look_with_flag f on t) d) refl tt (λ r. tt))
+  flag_leads d f t on = grind (arith, unless_leads, flag_same, flag_is, one_leads)
 
   text_leads : (d : Drawing) (w : Option TextLook) → (R → IfSome w TextInRange) → Leads R (text_prelude d.text w) d (record d { text = unwrap_or w d.text })
   unfolding text_prelude

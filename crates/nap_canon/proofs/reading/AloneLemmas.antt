@@ -1,10 +1,7 @@
 -- What a reader does with pieces of canonical text that aren't opcodes.
 
-use Rattle.nap_canon.proofs.Common.{CharSet, CodeSet, CodeSets, Entry, GSet, IsAlone, IsGraphic, List, Machine, Ok, Placed, RuleResult, Spells, Work, [], ap, append-nil, char_piece, code_rule, control, in_gl, non_pdi_code, number_rows, piece_bytes, pieces_bytes, placed_from, primary, refl, row_of, rule_result, set_rows, shift_in, single_shift3, subst, suc, sym, text_end_after, walk, with_set, ℕ, ◌++◌, ◌∙◌, ◌∷◌, ◌≡◌}
-use Rattle.nap_codes.specs.declared.code.Code.{Code}
-use Rattle.nap_codes.specs.declared.code_set.GSet.TheVariants.{G0, G1, G2, G3}
+use Rattle.nap_canon.proofs.Common.{CharSet, Code, CodeSet, CodeSets, Entry, G0, GSet, IsAlone, IsGraphic, List, Machine, NoRun, Ok, Placed, RuleResult, Spells, Work, [], ap, append-nil, char_piece, code_rule, control, in_gl, non_pdi_code, number_rows, piece_bytes, pieces_bytes, placed_from, primary, refl, row_of, rule_result, set_rows, shift_in, single_shift3, subst, suc, sym, text_end_after, walk, with_set, ℕ, ◌++◌, ◌∙◌, ◌∷◌, ◌≡◌}
 use Rattle.nap_codes.specs.Spelling.{designation}
-use Rattle.nap_canon.specs.declared.text_end.TextEnd.TheVariants.{NoRun}
 use Rattle.nap_canon.proofs.reading.CodeLemmas.{code_reads}
 use Rattle.nap_canon.proofs.reading.PieceLemmas.{Acts, at, sets_with}
 use Rattle.nap_canon.proofs.reading.ReadLemmas.{Reads}
@@ -45,9 +42,7 @@ primary_shifted : (budget : ℕ) (gl : GSet) (work : Work) (byte : ℕ) (n : ℕ
     Reads (at budget gl work) (placed_from n (piece_bytes (NoRun gl) (primary byte)) ++ xs) es end
 unfolding placed_from
 primary_shifted budget G0 work byte n xs es end read = read n
-primary_shifted budget G1 work byte n xs es end read = shifts_in budget G1 work n (placed_from (suc n) (byte ∷ []) ++ xs) es end (read (suc n))
-primary_shifted budget G2 work byte n xs es end read = shifts_in budget G2 work n (placed_from (suc n) (byte ∷ []) ++ xs) es end (read (suc n))
-primary_shifted budget G3 work byte n xs es end read = shifts_in budget G3 work n (placed_from (suc n) (byte ∷ []) ++ xs) es end (read (suc n))
+primary_shifted budget gl work byte n xs es end read = shifts_in budget gl work n (placed_from (suc n) (byte ∷ []) ++ xs) es end (read (suc n))
 
 pub primary_acts : (budget : ℕ) (gl : GSet) (work : Work) (byte : ℕ) (d : RuleResult) → IsGraphic byte → code_rule work (Code.Char CharSet.Primary byte) ≡ Ok d →
     Acts budget gl work (primary byte ∷ []) d.entries d.work

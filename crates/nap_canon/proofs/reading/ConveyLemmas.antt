@@ -1,10 +1,7 @@
 -- The entries that pieces which join no run convey to a reader, and the work that they leave.
 
-use Rattle.nap_canon.proofs.Common.{CharSet, Entry, GSet, IsAlone, IsGraphic, IsPlainCode, IsWord, List, MayFollowCode, Ok, Opcode, Piece, RuleResult, Spells, TextEnd, Work, [], append-nil, arith, char_piece, code_is_spelled, code_rule, control, domain, gl_of, left_out_opcode, opcode, opcode_rows, primary, refl, row_of, rule, rule_result, run_limit, subst, text_end_after, text_lengths, walk, word_byte, words_of, ℕ, ◌++◌, ◌<◌, ◌∷◌, ◌≡◌, ◌≤◌}
-use Rattle.nap_codes.specs.declared.code.Code.{Code}
-use Rattle.nap_codes.specs.declared.code_set.GSet.TheVariants.{G0, G1}
+use Rattle.nap_canon.proofs.Common.{CharSet, Code, Entry, G0, G1, GSet, IsAlone, IsGraphic, IsPlainCode, IsWord, List, MayFollowCode, NoRun, Ok, Opcode, Piece, RuleResult, Spells, TextEnd, Work, [], append-nil, arith, char_piece, code_is_spelled, code_rule, control, domain, gl_of, left_out_opcode, opcode, opcode_rows, primary, refl, row_of, rule, rule_result, run_limit, subst, text_end_after, text_lengths, walk, word_byte, words_of, ℕ, ◌++◌, ◌<◌, ◌∷◌, ◌≡◌, ◌≤◌}
 use Rattle.nap_codes.specs.Spelling as spells
-use Rattle.nap_canon.specs.declared.text_end.TextEnd.TheVariants.{NoRun}
 use Rattle.nap_canon.proofs.reading.AloneLemmas.{alone_acts, primary_acts, drcs_acts}
 use Rattle.nap_canon.proofs.spelling.OperandLemmas.{AreOperands, no_bytes, no_moves, word_bytes}
 use Rattle.nap_canon.proofs.reading.PieceLemmas.{Acts, Begins, Names, sets_with, gl_after, acts_nothing, acts_after, opcode_acts}
@@ -32,8 +29,7 @@ piece_acts budget gl work p es left (by_primary byte d graphic by) = primary_act
 piece_acts budget gl work p es left (by_drcs byte d graphic by) = drcs_acts budget gl work byte d graphic by
 
 alone_comes : (c : Code) → IsAlone c → (rest : List Code) → MayFollowCode c rest
-alone_comes (Code.Op op) alone rest = absurd alone
-alone_comes _ alone rest = tt
+alone_comes c h rest = grind arith
 
 piece_plain : (t : TextEnd) (work : Work) (p : Piece) (es : List Entry) (left : Work) → Conveys work p es left → PlainlySpelled t (p ∷ [])
 piece_plain t work p es left (by_opcode byte op bytes size d is are few comes by) = opcode_plain t byte op bytes is are.carriers comes
@@ -42,10 +38,7 @@ piece_plain t work p es left (by_primary byte d graphic by) = primary_plain t by
 piece_plain t work p es left (by_drcs byte d graphic by) = drcs_plain t byte graphic
 
 piece_begins : (t : TextEnd) (work : Work) (p : Piece) (ps : List Piece) (es : List Entry) (left : Work) → Conveys work p es left → Begins t (p ∷ ps)
-piece_begins t work p ps es left (by_opcode byte op bytes size d is are few comes by) = is.3
-piece_begins t work p ps es left (by_control byte bytes c d below alone plain spells by) = below
-piece_begins t work p ps es left (by_primary byte d graphic by) = tt
-piece_begins t work p ps es left (by_drcs byte d graphic by) = omega arith
+piece_begins t work p ps es left h = grind arith
 
 -- pieces, one after another; or RESET with DOMAIN after it
 pub data ConveyAll : Work → List Piece → List Entry → Work → Type 0 where
@@ -68,15 +61,11 @@ lengths_convey work =
 -- Pieces begin so after any end of the text; no pieces convey nothing.
 
 pub nothing_conveyed : (work : Work) (ps : List Piece) (es : List Entry) (left : Work) → ConveyAll work ps es left → ps ≡ [] → es ≡ []
-nothing_conveyed work ps es left nothing none = refl
-nothing_conveyed work ps es left (next c more) none = let bad : ⊥ = cc in absurd bad
-nothing_conveyed work ps es left (resets first second d one two by) none = let bad : ⊥ = cc in absurd bad
+nothing_conveyed work ps es left h h2 = grind arith
 
 pub convey_begin : (t : TextEnd) (rest : List Piece) (work : Work) (ps : List Piece) (es : List Entry) (left : Work) → ConveyAll work ps es left → (ps ≡ [] → Begins t rest) →
     Begins t (ps ++ rest)
-convey_begin t rest work ps es left nothing begins = begins refl
-convey_begin t rest work ps es left (next {between = between} {p = p} {ps = qs} {es = ds} c more) begins = piece_begins t work p (qs ++ rest) ds between c
-convey_begin t rest work ps es left (resets first second d one two by) begins = is_reset.3
+convey_begin t rest work ps es left h h2 = grind (arith, piece_begins)
 
 -- pieces leave no run
 pub convey_end : (gl : GSet) (work : Work) (ps : List Piece) (es : List Entry) (left : Work) → ConveyAll work ps es left → text_end_after (NoRun gl) ps ≡ NoRun (gl_after gl ps)

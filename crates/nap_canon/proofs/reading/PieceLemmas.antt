@@ -1,10 +1,7 @@
 -- What a reader does with pieces of canonical text.
 
-use Rattle.nap_canon.proofs.Common.{All, Code, CodeSets, Entry, GSet, IsOperandByte, List, Machine, Ok, Opcode, Piece, Placed, RuleResult, TextEnd, Work, [], ap, append-nil, append_assoc, arith, control, false, gl_of, group, is_operand_byte, joins_open_run, length, nat_tests, opcode, piece_bytes, pieces_bytes, pieces_bytes-append, placed_from, primary, refl, rule, rule_result, run_limit, shift_out, start_sets, subst, suc, sym, text_end_after, text_end_after-append, walk, ℕ, ⊤, ◌++◌, ◌+◌, ◌<◌, ◌∙◌, ◌∷◌, ◌≡◌, ◌≤◌}
+use Rattle.nap_canon.proofs.Common.{All, Code, CodeSets, Entry, G1, GSet, IsOperandByte, List, Machine, NoRun, Ok, Opcode, Piece, Placed, RuleResult, TextEnd, Work, [], ap, append-nil, append_assoc, arith, complete, control, false, front, gl_of, group, is_operand_byte, joins_open_run, length, nat_tests, opcode, piece_bytes, pieces_bytes, pieces_bytes-append, placed_from, primary, refl, rule, rule_result, run_limit, shift_out, start_sets, subst, suc, sym, text_end_after, text_end_after-append, walk, ℕ, ⊤, ◌++◌, ◌+◌, ◌<◌, ◌∙◌, ◌∷◌, ◌≡◌, ◌≤◌}
 use Rattle.nap_values.specs.Spellings as spellings
-use Rattle.nap_codes.specs.declared.code_set.GSet.TheVariants.{G0, G1, G2, G3}
-use Rattle.nap_codes.specs.Front as codes
-use Rattle.nap_canon.specs.declared.text_end.TextEnd.TheVariants.{NoRun}
 use Rattle.nap_canon.proofs.reading.PlacedLemmas.{words_of-placed, placed_from-append, spelled_run}
 use Rattle.nap_canon.proofs.reading.CodeLemmas.{code_reads}
 use Rattle.nap_canon.proofs.reading.ReadLemmas.{machine_between, Reads, BeginsAnew, reads_run}
@@ -43,30 +40,17 @@ no_operand byte below = grind (arith, nat_tests)
 begins_anew : (n : ℕ) (t : TextEnd) (ps : List Piece) (xs : List Placed) → Begins t ps → (gl_after G1 ps ≡ G1 → BeginsAnew xs) →
     BeginsAnew (placed_from n (pieces_bytes (NoRun G1) ps) ++ xs)
 unfolding pieces_bytes text_end_after placed_from
-begins_anew n t [] xs begins more_reads = more_reads refl
-begins_anew n t (opcode byte operands ∷ ps) xs begins more_reads = no_operand byte begins
-begins_anew n t (group byte operands ∷ ps) xs begins more_reads = no_operand byte begins.1
-begins_anew n t (primary code ∷ ps) xs begins more_reads = refl
-begins_anew n t (control [] ∷ ps) xs begins more_reads = absurd begins
-begins_anew n t (control (byte ∷ bytes) ∷ ps) xs begins more_reads = no_operand byte (omega (arith, begins))
+begins_anew n t ps xs h h2 = grind (arith, no_operand)
 
 -- Pieces that join no run are written as they are after none.
 
 pub written_apart : (t : TextEnd) (ps : List Piece) → Begins t ps → pieces_bytes t ps ≡ pieces_bytes (NoRun (gl_of t)) ps
 unfolding pieces_bytes
-written_apart t [] begins = refl
-written_apart t (opcode byte operands ∷ ps) begins = refl
-written_apart t (group byte operands ∷ ps) begins = rw begins.0 refl
-written_apart t (primary code ∷ ps) begins = refl
-written_apart t (control bytes ∷ ps) begins = refl
+written_apart t ps h = grind arith
 
 pub gl_apart : (t : TextEnd) (ps : List Piece) → Begins t ps → gl_of (text_end_after t ps) ≡ gl_after (gl_of t) ps
 unfolding text_end_after
-gl_apart t [] begins = refl
-gl_apart t (opcode byte operands ∷ ps) begins = refl
-gl_apart t (group byte operands ∷ ps) begins = rw begins.0 refl
-gl_apart t (primary code ∷ ps) begins = refl
-gl_apart t (control bytes ∷ ps) begins = refl
+gl_apart t ps h = grind arith
 
 -- no pieces
 pub acts_nothing : (budget : ℕ) (gl : GSet) (work : Work) → Acts budget gl work [] [] work
@@ -101,7 +85,7 @@ acts_after budget gl ps qs work between left es fs begins first second n xs more
 
 -- the byte is the opcode's
 abbrev pub Names : ℕ → Opcode → Type 0
-Names byte op = codes.front (sets_with G1) (byte ∷ []) ≡ codes.complete (Code.Op op) 1 (sets_with G1)
+Names byte op = front (sets_with G1) (byte ∷ []) ≡ complete (Code.Op op) 1 (sets_with G1)
 
 opcode_in_gl : (budget : ℕ) (work : Work) (byte : ℕ) (operands : List ℕ) (op : Opcode) (d : RuleResult) → Names byte op → All IsOperandByte operands →
     length operands ≤ run_limit → rule work op (spellings.words_of operands) ≡ Ok d →
@@ -126,9 +110,7 @@ shifted_in : (budget : ℕ) (gl : GSet) (work : Work) (byte : ℕ) (operands : L
     Reads (at budget gl work) (placed_from n (piece_bytes (NoRun gl) (opcode byte operands)) ++ xs) es end
 unfolding placed_from
 shifted_in budget G1 work byte operands n xs es end read = read n
-shifted_in budget G0 work byte operands n xs es end read = shifts_out budget G0 work n (placed_from (suc n) (byte ∷ operands) ++ xs) es end (read (suc n))
-shifted_in budget G2 work byte operands n xs es end read = shifts_out budget G2 work n (placed_from (suc n) (byte ∷ operands) ++ xs) es end (read (suc n))
-shifted_in budget G3 work byte operands n xs es end read = shifts_out budget G3 work n (placed_from (suc n) (byte ∷ operands) ++ xs) es end (read (suc n))
+shifted_in budget gl work byte operands n xs es end read = shifts_out budget gl work n (placed_from (suc n) (byte ∷ operands) ++ xs) es end (read (suc n))
 
 pub opcode_acts : (budget : ℕ) (gl : GSet) (work : Work) (byte : ℕ) (operands : List ℕ) (op : Opcode) (d : RuleResult) → Names byte op → All IsOperandByte operands →
     length operands ≤ run_limit → rule work op (spellings.words_of operands) ≡ Ok d → Acts budget gl work (opcode byte operands ∷ []) d.entries d.work

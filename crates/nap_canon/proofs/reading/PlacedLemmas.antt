@@ -1,8 +1,7 @@
 -- Bytes with their places.
 
-use Rattle.nap_canon.proofs.Common.{All, Code, IsOperandByte, IsRun, List, Machine, Opcode, Placed, [], ap, arith, between, bytes_of, carried_words, length, placed_from, refl, run_limit, subst, suc, sym, ℕ, ◌++◌, ◌+◌, ◌∙◌, ◌∷◌, ◌≡◌, ◌≤◌}
+use Rattle.nap_canon.proofs.Common.{All, Code, IsOperandByte, IsRun, List, Machine, Opcode, Placed, [], ap, arith, between, bytes_of, carried_words, complete, front, length, length-map, placed_from, refl, run_limit, suc, sym, ℕ, ◌++◌, ◌+◌, ◌∙◌, ◌∷◌, ◌≡◌, ◌≤◌}
 use Rattle.nap_values.specs.Spellings as spellings
-use Rattle.nap_codes.specs.Front as codes
 
 pub words_of-placed : (n : ℕ) (bytes : List ℕ) → carried_words (placed_from n bytes) ≡ spellings.words_of bytes
 unfolding placed_from
@@ -15,9 +14,7 @@ bytes_of-placed n [] = refl
 bytes_of-placed n (b ∷ bytes) = ap (λ (bs : List ℕ). b ∷ bs) (bytes_of-placed (suc n) bytes)
 
 pub length-placed : (n : ℕ) (bytes : List ℕ) → length (placed_from n bytes) ≡ length bytes
-unfolding placed_from
-length-placed n [] = refl
-length-placed n (b ∷ bytes) = ap suc (length-placed (suc n) bytes)
+length-placed n bytes = sym (length-map (placed_from n bytes) (λ (x : Placed). x.byte)) ∙ ap length (bytes_of-placed n bytes)
 
 pub placed_from-append : (n : ℕ) (xs ys : List ℕ) → placed_from n (xs ++ ys) ≡ placed_from n xs ++ placed_from (n + length xs) ys
 unfolding placed_from
@@ -29,11 +26,6 @@ placed_from-append n (x ∷ xs) ys =
 
 -- an opcode and the bytes of its operands are a run
 pub spelled_run : (n : ℕ) (opcode : ℕ) (operands : List ℕ) (op : Opcode) (m : Machine) → m.mode ≡ between →
-    codes.front m.sets (opcode ∷ []) ≡ codes.complete (Code.Op op) 1 m.sets → All IsOperandByte operands → length operands ≤ run_limit →
+    front m.sets (opcode ∷ []) ≡ complete (Code.Op op) 1 m.sets → All IsOperandByte operands → length operands ≤ run_limit →
     IsRun m op (record { byte = opcode; place = n }) (placed_from (suc n) operands)
-spelled_run n opcode operands op m mode names all few = record {
-  mode = mode;
-  names = names;
-  carriers = subst (All IsOperandByte) (sym (bytes_of-placed (suc n) operands)) all;
-  few = omega (arith, few, length-placed (suc n) operands);
-}
+spelled_run n opcode operands op m mode names all few = grind (arith, bytes_of-placed, length-placed)

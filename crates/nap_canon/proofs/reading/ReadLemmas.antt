@@ -1,8 +1,7 @@
 -- The machine in canonical text.
 
-use Rattle.nap_canon.proofs.Common.{Bool, CodeSets, DrawFault, Entry, Err, IsRun, List, Machine, None, Ok, Opcode, Option, Outcome, Placed, Result, RuleResult, Some, Unfinished, Work, [], after_drawing, ap, append-nil, append_assoc, carried_words, cond, drawn_front, ended, ended_by, false, front_after_front, is_operand, length, means, no_names, nothing, open_run, outcome_by_front, outcome_from, paused, placed_from, prepend, refl, rule, run_acts, run_waits, start_machine, stream_front, subst, sym, true, with_definition, with_drawn, with_end, with_run, with_run_by, ℕ, ⊤, ◌++◌, ◌∙◌, ◌∷◌, ◌≡◌}
+use Rattle.nap_canon.proofs.Common.{CodeSets, DrawFault, Entry, IsRun, List, Machine, None, Ok, Opcode, Option, Outcome, Placed, Result, RuleResult, Some, Unfinished, Work, [], after_drawing, ap, append-nil, append_assoc, arith, carried_words, drawn_front, ended, false, front-nothing, front_after_front, is_operand, length, means, nothing, open_run, outcome_by_front, outcome_from, paused, placed_from, prepend, rule, run_acts, run_waits, start_machine, stream_front, subst, sym, with_drawn, with_run, with_run_by, ℕ, ⊤, ◌++◌, ◌∙◌, ◌∷◌, ◌≡◌}
 use Rattle.nap_reader.specs.Course as course
-use Rattle.nap_canon.proofs.operand_lengths.FrontCodes.{no_front}
 
 -- the machine between two codes, with no macro bound and nothing charged
 abbrev pub machine_between : ℕ → CodeSets → Work → Machine
@@ -10,11 +9,7 @@ machine_between budget sets work = record (start_machine budget) { work = work; 
 
 -- Clearing macros changes nothing if none is bound.
 pub between_after : (budget : ℕ) (sets : CodeSets) (work : Work) (d : RuleResult) → after_drawing (machine_between budget sets work) d ≡ machine_between budget sets d.work
-between_after budget sets work d = by d.clears
-  where
-    by : (clears : Bool) → record (machine_between budget sets d.work) { names = cond clears no_names no_names } ≡ machine_between budget sets d.work
-    by true = refl
-    by false = refl
+between_after budget sets work d = grind arith
 
 -- The outcome of a list once an open run at its end has acted.
 
@@ -30,12 +25,10 @@ pub record Reads (m : Machine) (xs : List Placed) (es : List Entry) (after : Mac
 
 with_drawn-prepend : (es : List Entry) (o : Outcome) (place : ℕ) (by : Result RuleResult DrawFault) →
     with_drawn (prepend es o) place by ≡ prepend es (with_drawn o place by)
-with_drawn-prepend es o place (Ok drawn) = rw append_assoc refl
-with_drawn-prepend es o place (Err fault) = refl
+with_drawn-prepend es o place by = grind (arith, append_assoc)
 
 with_run_by-prepend : (es : List Entry) (o : Outcome) (u : Option Unfinished) → with_run_by (prepend es o) u ≡ prepend es (with_run_by o u)
-with_run_by-prepend es o (Some (open_run op place run)) = with_drawn-prepend es o place (rule o.machine.work op run)
-with_run_by-prepend es o _ = refl
+with_run_by-prepend es o u = grind (arith, with_drawn-prepend)
 
 with_run-prepend : (es : List Entry) (o : Outcome) → with_run (prepend es o) ≡ prepend es (with_run o)
 with_run-prepend es o = with_run_by-prepend es o o.unfinished
@@ -44,25 +37,15 @@ with_run-prepend es o = with_run_by-prepend es o o.unfinished
 
 nothing_read : (budget : ℕ) (sets : CodeSets) (work : Work) → outcome_from (machine_between budget sets work) [] ≡ settled [] (machine_between budget sets work)
 unfolding stream_front
-nothing_read budget sets work =
-    let m : Machine = machine_between budget sets work in
-    let none : stream_front m [] ≡ course.pause nothing = rw (no_front sets) refl in
-    front_after_front m [] ∙ ap (outcome_by_front outcome_from m []) none
+nothing_read budget sets work = grind (arith, nothing, front-nothing, front_after_front)
 
 pub reads_nothing : (budget : ℕ) (sets : CodeSets) (work : Work) → Reads (machine_between budget sets work) [] [] (machine_between budget sets work)
-reads_nothing budget sets work =
-    let is = nothing_read budget sets work in
-    record { going = ap (λ (o : Outcome). o.refusal) is; acts = ap with_run is }
+reads_nothing budget sets work = grind (arith, nothing_read)
 
 -- a code that acts
 pub reads_act : (m : Machine) (xs : List Placed) (ds : List Entry) (next : Machine) (ys : List Placed) (es : List Entry) (after : Machine) →
     stream_front m xs ≡ course.act ds next ys → Reads next ys es after → Reads m xs (ds ++ es) after
-reads_act m xs ds next ys es after e rest =
-    let is : outcome_from m xs ≡ prepend ds (outcome_from next ys) = front_after_front m xs ∙ ap (outcome_by_front outcome_from m xs) e in
-    record {
-      going = ap (λ (o : Outcome). o.refusal) is ∙ rest.going;
-      acts = ap with_run is ∙ (with_run-prepend ds (outcome_from next ys) ∙ ap (prepend ds) rest.acts);
-    }
+reads_act m xs ds next ys es after e rest = grind (arith, front_after_front, with_run-prepend)
 
 -- an opcode whose run reaches the end
 
@@ -95,13 +78,7 @@ module _ (budget : ℕ) (sets : CodeSets) (work : Work) (x : Placed) (operands :
 
   pub reads_run : (xs : List Placed) (es : List Entry) (after : Machine) → IsRun here op x operands → rule work op (carried_words operands) ≡ Ok drawn →
       BeginsAnew xs → Reads next xs es after → Reads here ((x ∷ operands) ++ xs) (drawn.entries ++ es) after
-  reads_run [] es after run by anew more_reads =
-      let none = reads_nothing budget sets drawn.work in
-      let same : settled [] next ≡ settled es after = sym none.acts ∙ more_reads.acts in
-      subst (λ (ys : List Placed). Reads here ys (drawn.entries ++ es) after) (sym (append-nil (x ∷ operands)))
-      (subst (λ (ds : List Entry). Reads here (x ∷ operands) (drawn.entries ++ ds) after) (ap (λ (o : Outcome). o.entries) same)
-      (subst (λ (n : Machine). Reads here (x ∷ operands) (drawn.entries ++ []) n) (ap (λ (o : Outcome). o.machine) same)
-      (subst (λ (ds : List Entry). Reads here (x ∷ operands) ds next) (sym (append-nil drawn.entries)) (drawn_last run by))))
+  reads_run [] es after run by anew more_reads = grind (arith, reads_nothing, append-nil, drawn_last)
   reads_run (y ∷ ys) es after run by anew more_reads =
       reads_act here ((x ∷ operands) ++ y ∷ ys) drawn.entries (after_drawing here drawn) (y ∷ ys) es after
       (run_acts here op x operands y ys run anew ∙ ap (drawn_front here x.place (y ∷ ys)) by)
@@ -110,12 +87,8 @@ module _ (budget : ℕ) (sets : CodeSets) (work : Work) (x : Placed) (operands :
 -- the end of a stream
 ends_settled : (n : ℕ) (o : Outcome) (es : List Entry) (m : Machine) → o.refusal ≡ None → with_run o ≡ settled es m →
     m.work.state.definition ≡ None → ended n o ≡ settled es m
-ends_settled n o es m going acts closed =
-    ap (ended_by o n) going
-    ∙ (ap (λ (x : Outcome). with_end x n x.refusal) acts
-    ∙ ap (with_definition (settled es m) n) closed)
+ends_settled n o es m going acts closed = grind arith
 
 pub means_settled : (budget : ℕ) (p : List ℕ) (es : List Entry) (m : Machine) → Reads (start_machine budget) (placed_from 0 p) es m →
     m.work.state.definition ≡ None → means budget p ≡ settled es m
-means_settled budget p es m h closed =
-    ends_settled (length p) (outcome_from (start_machine budget) (placed_from 0 p)) es m h.going h.acts closed
+means_settled budget p es m h closed = grind (arith, ends_settled, length)

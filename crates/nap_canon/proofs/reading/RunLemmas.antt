@@ -1,7 +1,6 @@
 -- Groups of operands that join a run.
 
-use Rattle.nap_canon.proofs.Common.{All, All-append, AreWholeOperands, CanJoin, Entry, GSet, IsOperandByte, List, Ok, Opcode, OperandLengths, Piece, RuleResult, State, TextEnd, Work, [], after, ap, append_assoc, arith, false, gl_of, group, joins_open_run, length, length-append, length-map, map-append, nat_tests, pieces_bytes, placed_from, refl, rule, run_after, run_limit, runs_join, shift_to_opcodes, subst, sym, text_end_after, true, words_of, ℕ, ◌*◌, ◌++◌, ◌+◌, ◌-◌, ◌∙◌, ◌∷◌, ◌≡◌, ◌≤◌}
-use Rattle.nap_canon.specs.declared.text_end.TextEnd.TheVariants.{NoRun, InRun}
+use Rattle.nap_canon.proofs.Common.{All, All-append, AreWholeOperands, CanJoin, Entry, GSet, InRun, IsOperandByte, List, NoRun, Ok, Opcode, OperandLengths, Piece, RuleResult, State, TextEnd, Work, [], after, ap, append_assoc, arith, false, gl_of, group, joins_open_run, length, length-append, length-map, map-append, nat_tests, pieces_bytes, placed_from, refl, rule, run_after, run_limit, runs_join, subst, sym, text_end_after, true, words_of, ℕ, ◌*◌, ◌++◌, ◌+◌, ◌-◌, ◌∙◌, ◌∷◌, ◌≡◌, ◌≤◌}
 use Rattle.nap_canon.proofs.spelling.CommandLemmas.{work_at}
 use Rattle.nap_canon.proofs.reading.ConveyLemmas.{names}
 use Rattle.nap_canon.proofs.spelling.HoldingLemmas.{holding, work_with_attributes}
@@ -14,19 +13,11 @@ use Rattle.nap_canon.proofs.spelling.StrokeLemmas.{Strokes}
 
 module _ (gl : GSet) (byte : ℕ) (a b : List ℕ) (ps : List Piece) (joins : joins_open_run (InRun (run_after (NoRun gl) byte (length a))) byte (length b) ≡ true) where
   text_ends_agree : InRun (run_after (InRun (run_after (NoRun gl) byte (length a))) byte (length b)) ≡ InRun (run_after (NoRun gl) byte (length (a ++ b)))
-  text_ends_agree =
-      let to : ℕ → TextEnd = λ n. InRun (record { opcode = byte; length = n }) in
-      rw joins (ap to (sym (length-append a b)))
+  text_ends_agree = grind (arith, length, length-append)
 
   pub joined_bytes : pieces_bytes (NoRun gl) (group byte a ∷ group byte b ∷ ps) ≡ pieces_bytes (NoRun gl) (group byte (a ++ b) ∷ ps)
   unfolding pieces_bytes
-  joined_bytes =
-      let first : List ℕ = shift_to_opcodes gl ++ byte ∷ a in
-      let t : TextEnd = InRun (run_after (InRun (run_after (NoRun gl) byte (length a))) byte (length b)) in
-      let second : pieces_bytes (InRun (run_after (NoRun gl) byte (length a))) (group byte b ∷ ps) ≡ b ++ pieces_bytes t ps = rw joins refl in
-      ap (λ (bs : List ℕ). first ++ bs) (second ∙ ap (λ (u : TextEnd). b ++ pieces_bytes u ps) text_ends_agree)
-      ∙ sym (append_assoc first b (pieces_bytes (InRun (run_after (NoRun gl) byte (length (a ++ b)))) ps))
-      ∙ ap (λ (bs : List ℕ). bs ++ pieces_bytes (InRun (run_after (NoRun gl) byte (length (a ++ b)))) ps) (append_assoc (shift_to_opcodes gl) (byte ∷ a) b)
+  joined_bytes = grind (arith, length, text_ends_agree, append_assoc)
 
   pub joined_gl : gl_after gl (group byte a ∷ group byte b ∷ ps) ≡ gl_after gl (group byte (a ++ b) ∷ ps)
   unfolding text_end_after
@@ -72,8 +63,7 @@ named_once : (byte : ℕ) (op other : Opcode) → Names byte op → Names byte o
 named_once byte op other first second = let both = sym second ∙ first in cc
 
 is_whole : (work : Work) (operands : List ℕ) (groups : ℕ) → work.domain.multi ≡ 8 → length operands ≡ groups * 8 → AreWholeOperands work.domain.multi (words_of operands)
-is_whole work operands groups lengths whole =
-    (groups, length-map operands (λ (b : ℕ). b - 64) ∙ whole ∙ ap (λ (k : ℕ). groups * k) (sym lengths))
+is_whole work operands groups lengths whole = grind (arith, length-map)
 
 -- the run that an entry opens
 abbrev pub opened : (saved : OperandLengths) (s : State) (e : Entry) (byte : ℕ) (operands : List ℕ) → Strokes saved s e byte operands →

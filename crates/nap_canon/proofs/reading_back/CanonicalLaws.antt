@@ -1,23 +1,15 @@
 -- The laws of canonical streams: their text is read as the list, so they are equal exactly if the lists are.
 
-use Rattle.nap_canon.proofs.Common.{CanonicalStreamsAgree, Entry, Form, IsAccepted, IsCanonicalOf, IsPlain, IsReadAs, IsSome, List, None, OpenDefinition, OperandLengths, Option, Outcome, Some, TextIsRead, TextLeads, accepted_is_legal, ap, list_of, read_values_are_in_range, start, start_domain, subst, sym, text, text_lengths, walk, ℕ, ◌↔◌, ◌∙◌, ◌≡◌}
-use Rattle.nap_canon.specs.declared.text.Form.TheVariants.{Two}
+use Rattle.nap_canon.proofs.Common.{CanonicalStreamsAgree, Form, IsCanonicalOf, IsPlain, IsReadAs, IsSome, List, OpenDefinition, OperandLengths, Option, Outcome, TextIsRead, TextLeads, Two, accepted_is_legal, ap, arith, list_of, read_values_are_in_range, start, start_domain, subst, sym, text, text_lengths, walk, ℕ, ◌↔◌, ◌∙◌, ◌≡◌}
 use Rattle.nap_canon.proofs.reading_back.ListLemmas.{text_reads, means_text}
 use Rattle.nap_canon.proofs.spelling.SavedLemmas.{SavesLengths, saved_along, saves_along}
 use Rattle.nap_canon.proofs.plain_codes.PlainTexts.{text_is_plain}
 
 pub text_is_read : (form : Form) → TextIsRead form
-text_is_read form budget es legal inside =
-    let is = means_text form budget es inside legal in
-    record {
-      accepted = ap (λ (o : Outcome). o.refusal) is;
-      list = ap (λ (o : Outcome). o.entries) is;
-      uncharged = ap (λ (o : Outcome). o.machine.left) is;
-    }
+text_is_read form budget es legal inside = grind (arith, means_text)
 
 saved_lengths : (saved : OperandLengths) (o : Option OpenDefinition) → SavesLengths saved o → IsSome o → saved ≡ text_lengths
-saved_lengths saved (Some opened) h some = h
-saved_lengths saved None h never = let bad : ⊥ = cc in absurd bad
+saved_lengths saved o h h2 = grind arith
 
 pub text_leads : (form : Form) → TextLeads form
 text_leads form budget es fits inside =
@@ -55,9 +47,7 @@ equal_texts budget other c p d q first second = (
 )
 
 pub own_text : (budget other : ℕ) (c p : List ℕ) → IsCanonicalOf budget c p → IsCanonicalOf other c c
-own_text budget other c p canonical =
-    let again = read_as budget other c p canonical in
-    record { accepted = again.accepted; text_is = canonical.text_is ∙ ap text (sym again.list) }
+own_text budget other c p canonical = grind (arith, read_as)
 
 pub canonical_streams_agree : CanonicalStreamsAgree
 canonical_streams_agree budget = record {
@@ -67,8 +57,3 @@ canonical_streams_agree budget = record {
   same_list = λ other c p canonical. (read_as budget other c p canonical).list;
   own = own_text budget;
 }
-
--- the text of the list that was read is the canonical stream
-pub text_is_canonical : (budget : ℕ) (c p : List ℕ) (es : List Entry) → IsAccepted budget p → es ≡ list_of budget p → c ≡ text es →
-    IsCanonicalOf budget c p
-text_is_canonical budget c p es accepted read is = record { accepted = accepted; text_is = is ∙ ap text read }

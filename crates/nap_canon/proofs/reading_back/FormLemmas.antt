@@ -1,7 +1,6 @@
 -- The text of a list is no longer than its text in form 1.
 
-use Rattle.nap_canon.proofs.Common.{Bool, CharSet, Colour, Command, Coordinates, Drawing, Entry, FormsAgree, GSet, List, Pen, Piece, Some, State, TextEnd, [], after, ap, append-nil, arith, attributes, char_piece, colour_prelude, command_piece, control, domain, entry_pieces, false, gl_of, grb_bytes, group, if◌then◌else◌, joins_open_run, length, length-append, line_piece, map, opcode, pieces, pieces_bytes, pieces_bytes-append, point_bytes, prelude, primary, refl, same_pen, shift_to_opcodes, spelling_pieces, start, sym, text, text_end_after, text_end_after-append, text_end_after_header, text_end_after_piece, true, with_attributes, ℕ, ⊤, ◌%◌, ◌++◌, ◌+◌, ◌==◌, ◌∙◌, ◌∷◌, ◌≡◌, ◌≤◌}
-use Rattle.nap_canon.specs.declared.text.Form.TheVariants.{One, Two}
+use Rattle.nap_canon.proofs.Common.{Bool, CharSet, Command, Coordinates, Drawing, Entry, FormsAgree, List, One, Pen, Piece, State, TextEnd, Two, [], after, ap, append-nil, arith, attributes, char_piece, command_piece, domain, entry_pieces, false, gl_of, group, if◌then◌else◌, length, length-append, line_piece, map, opcode, pieces, pieces_bytes, pieces_bytes-append, point_bytes, prelude, refl, same_pen, spelling_pieces, sym, text_end_after, text_end_after-append, true, with_attributes, ℕ, ⊤, ◌%◌, ◌++◌, ◌+◌, ◌==◌, ◌∙◌, ◌∷◌, ◌≡◌, ◌≤◌}
 use Rattle.nap_canon.proofs.reading_back.CanonicalLaws.{text_is_read}
 
 -- after the same set in GL, the first pieces have no more bytes than the others, and leave the same set
@@ -30,20 +29,16 @@ NoGroup (p ∷ ps) = NoGroup ps
 
 no_group_after : (ps qs : List Piece) → NoGroup ps → NoGroup qs → NoGroup (ps ++ qs)
 no_group_after [] qs first second = second
-no_group_after (opcode byte operands ∷ ps) qs first second = no_group_after ps qs first second
 no_group_after (group byte operands ∷ ps) qs first second = first
-no_group_after (primary code ∷ ps) qs first second = no_group_after ps qs first second
-no_group_after (control bytes ∷ ps) qs first second = no_group_after ps qs first second
+no_group_after (_ ∷ ps) qs first second = no_group_after ps qs first second
 
 -- after the same set in GL they are written alike
 same_bytes : (ps : List Piece) → NoGroup ps → (t u : TextEnd) → gl_of t ≡ gl_of u → (pieces_bytes t ps ≡ pieces_bytes u ps) × (gl_of (text_end_after t ps) ≡ gl_of (text_end_after u ps))
 unfolding pieces_bytes text_end_after
 same_bytes [] none t u same = (refl, same)
-same_bytes (opcode byte operands ∷ ps) none t u same =
-    (ap (λ (gl : GSet). (shift_to_opcodes gl ++ byte ∷ operands) ++ pieces_bytes (text_end_after_piece t (opcode byte operands)) ps) same, refl)
+same_bytes (opcode byte operands ∷ ps) none t u same = grind arith
 same_bytes (group byte operands ∷ ps) none t u same = absurd none
-same_bytes (primary code ∷ ps) none t u same = rw same (refl, refl)
-same_bytes (control bytes ∷ ps) none t u same = rw same (refl, refl)
+same_bytes (_ ∷ ps) none t u same = rw same (refl, refl)
 
 same_no_longer : (ps : List Piece) → NoGroup ps → NoLonger ps ps
 same_no_longer ps none t u same =
@@ -52,53 +47,26 @@ same_no_longer ps none t u same =
 
 commands_no_group : (cs : List Command) → NoGroup (map command_piece cs)
 commands_no_group [] = tt
-commands_no_group (Command.Named size ∷ cs) = commands_no_group cs
-commands_no_group (Command.Flag flag on ∷ cs) = commands_no_group cs
-commands_no_group (Command.PointSet p ∷ cs) = commands_no_group cs
-commands_no_group (Command.Pel m ∷ cs) = commands_no_group cs
-commands_no_group (Command.SelectBase ∷ cs) = commands_no_group cs
-commands_no_group (Command.SelectFront a ∷ cs) = commands_no_group cs
-commands_no_group (Command.SelectPair a b ∷ cs) = commands_no_group cs
-commands_no_group (Command.SetColor grb ∷ cs) = commands_no_group cs
-commands_no_group (Command.Texture word ∷ cs) = commands_no_group cs
-commands_no_group (Command.TextureMask word m ∷ cs) = commands_no_group cs
-commands_no_group (Command.Text first second ∷ cs) = commands_no_group cs
-commands_no_group (Command.TextSize first second m ∷ cs) = commands_no_group cs
+commands_no_group (Command.select_base ∷ cs) = commands_no_group cs
+commands_no_group (_ ∷ cs) = commands_no_group cs
 
 char_no_group : (set : CharSet) (code : ℕ) → NoGroup (char_piece set code ∷ [])
-char_no_group CharSet.Primary code = tt
-char_no_group CharSet.Supplementary code = tt
-char_no_group CharSet.Mosaic code = tt
-char_no_group CharSet.Drcs code = tt
+char_no_group set code = grind arith
 
 again_no_group : (back : Bool) → NoGroup (if back then domain [] ∷ [] else [])
-again_no_group true = tt
-again_no_group false = tt
+again_no_group back = grind arith
 
 -- form 1 has no groups
 spelled_no_group : (d : Drawing) (e : Entry) → NoGroup (spelling_pieces One d e)
 spelled_no_group d (Entry.Char set code hand) = char_no_group set code
-spelled_no_group d (Entry.Map a grb) =
-    let cs : List Command = colour_prelude d.base d.colour (Some (Colour.Front a)) in
-    no_group_after (map command_piece cs) (opcode 0x3C (grb_bytes grb) ∷ []) (commands_no_group cs) tt
+spelled_no_group d (Entry.Map a grb) = grind (arith, no_group_after, commands_no_group)
 spelled_no_group d (Entry.Reset first second pen) = again_no_group (first % 2 == 1)
 spelled_no_group d _ = tt
 
 -- a group has no more bytes than an opcode with as many operands or more
 group_no_longer : (byte other : ℕ) (operands more : List ℕ) → length operands ≤ length more → NoLonger (group byte operands ∷ []) (opcode other more ∷ [])
 unfolding pieces_bytes text_end_after
-group_no_longer byte other operands more few t u same = (at (joins_open_run t byte (length operands)) refl, refl)
-  where
-    at : (joined : Bool) → joins_open_run t byte (length operands) ≡ joined → length (pieces_bytes t (group byte operands ∷ [])) ≤ length (pieces_bytes u (opcode other more ∷ []))
-    at true is =
-        let mine : pieces_bytes t (group byte operands ∷ []) ≡ operands = rw is (append-nil operands) in
-        let theirs : pieces_bytes u (opcode other more ∷ []) ≡ shift_to_opcodes (gl_of u) ++ other ∷ more = append-nil (shift_to_opcodes (gl_of u) ++ other ∷ more) in
-        omega (arith, ap length mine, ap length theirs, length-append (shift_to_opcodes (gl_of u)) (other ∷ more), few)
-    at false is =
-        let mine : pieces_bytes t (group byte operands ∷ []) ≡ shift_to_opcodes (gl_of u) ++ byte ∷ operands =
-        rw is (append-nil (shift_to_opcodes (gl_of t) ++ byte ∷ operands) ∙ ap (λ (gl : GSet). shift_to_opcodes gl ++ byte ∷ operands) same) in
-        let theirs : pieces_bytes u (opcode other more ∷ []) ≡ shift_to_opcodes (gl_of u) ++ other ∷ more = append-nil (shift_to_opcodes (gl_of u) ++ other ∷ more) in
-        omega (arith, ap length mine, ap length theirs, length-append (shift_to_opcodes (gl_of u)) (other ∷ more), length-append (shift_to_opcodes (gl_of u)) (byte ∷ operands), few)
+group_no_longer byte other operands more few t u same = grind (arith, length, append-nil, length-append)
 
 line_no_longer : (pen : Pen) (from to : Coordinates) → NoLonger (line_piece Two pen from to ∷ []) (line_piece One pen from to ∷ [])
 line_no_longer pen from to = at (same_pen pen (Pen.At from)) refl
@@ -126,10 +94,4 @@ list_no_longer s (e ∷ es) =
     both_no_longer (entry_pieces Two s e) (entry_pieces One s e) (pieces Two (after s e) es) (pieces One (after s e) es) (entry_no_longer s e) (list_no_longer (after s e) es)
 
 pub forms_agree : FormsAgree
-forms_agree budget es legal inside =
-    let read = text_is_read One budget es legal inside in
-    let few = (list_no_longer start es text_end_after_header text_end_after_header refl).0 in
-    record {
-      canonical = record { accepted = read.accepted; text_is = ap text (sym read.list) };
-      no_longer = omega (arith, few, length-append (0x0E ∷ 0x21 ∷ 0x5F ∷ []) (pieces_bytes text_end_after_header (pieces Two start es)), length-append (0x0E ∷ 0x21 ∷ 0x5F ∷ []) (pieces_bytes text_end_after_header (pieces One start es)));
-    }
+forms_agree budget es legal inside = grind (arith, text_is_read, list_no_longer, length-append)

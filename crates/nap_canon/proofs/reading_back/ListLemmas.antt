@@ -1,8 +1,6 @@
 -- What a reader does with the text of a list.
 
-use Rattle.nap_canon.proofs.Common.{AllFit, AllInRange, Bool, Command, Drawing, Entry, Form, GSet, Legal, List, Machine, OperandLengths, Piece, Placed, State, TextEnd, [], after, ap, append-nil, append_assoc, attributes, command_piece, domain, effects, entry_pieces, false, group, inl, inr, joins_open_run, length, map, means, pieces, pieces_bytes, placed_from, prelude, refl, run_after, run_limit, spelling_pieces, start, start_domain, start_machine, start_work, subst, sym, text_end_after, text_in, true, walk, with_attributes, ℕ, ◌++◌, ◌+◌, ◌∙◌, ◌∷◌, ◌≡◌, ◌≤◌}
-use Rattle.nap_codes.specs.declared.code_set.GSet.TheVariants.{G0, G1}
-use Rattle.nap_canon.specs.declared.text_end.TextEnd.TheVariants.{NoRun, InRun}
+use Rattle.nap_canon.proofs.Common.{AllFit, AllInRange, Bool, Command, Drawing, Entry, Form, G0, G1, GSet, InRun, Legal, List, Machine, NoRun, OperandLengths, Piece, Placed, State, TextEnd, [], after, ap, append-nil, append_assoc, arith, attributes, command_piece, domain, effects, entry_pieces, false, group, inl, inr, joins_open_run, length, map, means, pieces, pieces_bytes, placed_from, prelude, refl, run_after, run_limit, spelling_pieces, start, start_domain, start_machine, start_work, subst, sym, text_end_after, text_in, true, walk, with_attributes, ℕ, ◌++◌, ◌+◌, ◌∙◌, ◌∷◌, ◌≡◌, ◌≤◌}
 use Rattle.nap_canon.proofs.spelling.CommandLemmas.{work_at}
 use Rattle.nap_canon.proofs.reading.ConveyLemmas.{nothing, next, lengths_convey, convey_act, convey_end}
 use Rattle.nap_canon.proofs.spelling.EntryLemmas.{MayCome, next_may, first_kind, led, prelude_after, prelude_conveys, group_parts, entry_begins, JoinsNone, spelled_begins}
@@ -17,8 +15,7 @@ use Rattle.nap_canon.proofs.spelling.StrokeLemmas.{Strokes}
 
 none_joined : (form : Form) (gl : GSet) (saved : OperandLengths) (s : State) (e : Entry) (es : List Entry) (may : MayCome saved s (e ∷ es)) (rest : List Piece) (k : Kind form saved s e) →
     JoinsNone saved s e es may form (NoRun gl) rest k
-none_joined form gl saved s e es may rest (inl by) = refl
-none_joined form gl saved s e es may rest (inr draws) = tt
+none_joined form gl saved s e es may rest k = grind arith
 
 list_begins : (form : Form) (gl : GSet) (saved : OperandLengths) (s : State) (es : List Entry) → MayCome saved s es → Begins (NoRun gl) (pieces form s es)
 unfolding pieces
@@ -115,7 +112,7 @@ module _ (form : Form) (budget : ℕ) where
       run_stops begins = run_ends (entry_begins saved s e es may form run_end (pieces form (after s e) es) begins)
 
       by_prelude : (cs : List Command) → prelude s.drawing (attributes e) ≡ cs → Kind form saved s e → Goal
-      by_prelude (c ∷ cs) is k = run_stops (λ none. let bad : ⊥ = cc in absurd bad)
+      by_prelude (c ∷ cs) is k = run_stops (λ none. cc)
       by_prelude [] is (inr draws) = run_stops (λ none. spelled_begins saved s e es may form run_end (pieces form (after s e) es) (inr draws) tt)
       by_prelude [] is (inl by) = at (joins_open_run run_end by.byte (length by.operands)) refl
         where
@@ -157,5 +154,4 @@ text_reads form budget es inside fits =
 
 -- the meaning of the text of a list: the list, and nothing is charged
 pub means_text : (form : Form) (budget : ℕ) (es : List Entry) → AllInRange es → Legal es → means budget (text_in form es) ≡ settled es (text_machine form budget es)
-means_text form budget es inside legal =
-    means_settled budget (text_in form es) es (text_machine form budget es) (text_reads form budget es inside legal.fit) legal.ended
+means_text form budget es inside legal = grind (arith, means_settled, text_reads)

@@ -1,11 +1,6 @@
 -- Entries that join the end of the text: all are written as equally many bytes, but for the opening before the first.
 
-use Rattle.nap_canon.proofs.Common.{AppendsNext, AppendsPieces, AreCurrent, Batch, Bool, CharSet, Command, Coordinates, Drawing, EachIsCurrent, Entry, Err, Form, FormatEffector, Hand, Joins, List, None, Ok, Option, Parted, Pen, Pending, Piece, PointsJoin, Result, SentUpTo, SentWhole, Some, SpellsNext, State, TextEnd, TextJoins, TextStep, [], after, ap, append-nil, append_assoc, arith, attributes, backward, batch_entries, command_piece, down, drop, entry_pieces, entry_size, false, false≢true, format_effector, format_effector_known, forward, gl_of, group, hand_of, home, ink_of, inl, inr, joinable_piece, joined_bytes, joins_open_run, last_point, length, length-append, length-drop, length-map, length-take-le, line_entry, line_piece, lines_count, lines_prefix, lines_rest, map, nat_tests, opening, piece_bytes, pieces, pieces_bytes, pieces_bytes-append, point_bytes, point_entry, points_bytes, points_prefix, points_rest, polyline_entries, refl, return, run_after, run_limit, run_opening, same_pen, shift_to_opcodes, shift_to_primary, spelling_pieces, step_bytes, subst, suc, sym, take, take-append-add, take-append-le, text_byte_piece, text_byte_piece_as, text_count, text_end_after, text_end_after-append, text_end_after_joined, text_end_after_piece, text_entries_in, text_entry, text_entry_as, text_prefix, true, up, walk, with_attributes, zero, ℕ, ⊤, ◌*◌, ◌++◌, ◌+◌, ◌-◌, ◌/◌, ◌<◌, ◌∙◌, ◌∷◌, ◌≡◌, ◌≤◌}
-use Rattle.nap_codes.specs.declared.code_set.CharSet.TheVariants.{Primary}
-use Rattle.nap_codes.specs.declared.code_set.GSet.TheVariants.{G0}
-use Rattle.nap_list.specs.declared.attribute.Pen.TheVariants.{At, After}
-use Rattle.nap_canon.specs.declared.text.Form.TheVariants.{Two}
-use Rattle.nap_canon.specs.declared.text_end.TextEnd.TheVariants.{NoRun, InRun}
+use Rattle.nap_canon.proofs.Common.{After, AppendsNext, AppendsPieces, AreCurrent, At, Batch, Bool, CharSet, Command, Coordinates, Drawing, EachIsCurrent, Entry, Err, Form, FormatEffector, G0, Hand, InRun, Joins, List, NoRun, None, Option, Parted, Pen, Pending, Piece, PointsJoin, Primary, Result, SentUpTo, SentWhole, Some, SpellsNext, State, TextEnd, TextJoins, TextStep, Two, [], after, ap, append-nil, append_assoc, arith, attributes, batch_entries, command_piece, drop, entry_pieces, entry_size, false, false≢true, format_effector, format_effector_known, gl_of, group, hand_of, ink_of, inl, inr, joinable_piece, joined_bytes, joins_open_run, last_point, length, length-append, length-drop, length-map, length-take-le, line_entry, line_piece, lines_count, lines_prefix, lines_rest, map, nat_tests, opening, piece_bytes, pieces, pieces_bytes, pieces_bytes-append, point_bytes, point_entry, points_bytes, points_prefix, points_rest, polyline_entries, refl, run_after, run_limit, run_opening, same_pen, shift_to_opcodes, shift_to_primary, spelling_pieces, step_bytes, subst, suc, sym, take, take-append-add, take-append-le, text_byte_piece, text_byte_piece_as, text_count, text_end_after, text_end_after-append, text_end_after_joined, text_end_after_piece, text_entries_in, text_entry, text_prefix, true, walk, with_attributes, zero, ℕ, ⊤, ◌*◌, ◌++◌, ◌+◌, ◌-◌, ◌/◌, ◌<◌, ◌∙◌, ◌∷◌, ◌≡◌, ◌≤◌}
 use Rattle.nap_canon.proofs.texts.PointsLemmas.{point_size, points_size}
 use Rattle.nap_canon.proofs.reading.RunLemmas.{same_opcode, space_for}
 use Rattle.nap_canon.proofs.prelude.CurrentLemmas.{nothing_to_set}
@@ -33,10 +28,7 @@ one_after form text_end s e piece is = ap (text_end_after text_end) is
 
 spelled_at : (form : Form) (d : Drawing) (list : List Entry) (x : Entry) (xs : List Entry) → x ∷ xs ≡ list → (e : Entry) (es : List Entry) → list ≡ e ∷ es →
     spelling_pieces form (with_attributes d (attributes e)) e ≡ spelling_pieces form (with_attributes d (attributes x)) x
-spelled_at form d list x xs there e es is =
-    let heads : x ∷ xs ≡ e ∷ es = there ∙ is in
-    let same : e ≡ x = cc in
-    ap (λ (e : Entry). spelling_pieces form (with_attributes d (attributes e)) e) same
+spelled_at form d list x xs there e es is = grind arith
 
 pub next_point : (form : Form) (d : Drawing) (batch : Batch) (points : _) (drawing : _) (index : ℕ) (p : Coordinates) (rest : List Coordinates) → batch ≡ Batch.Points points drawing →
     drop index points.now ≡ p ∷ rest → (e : Entry) (es : List Entry) → drop index (batch_entries batch) ≡ e ∷ es →
@@ -66,11 +58,7 @@ text_after set hand (c ∷ cs) (suc n) = text_after set (record hand { pen = Aft
 
 -- the spelling of a byte of a text
 typed_spelled : (form : Form) (d : Drawing) (set : CharSet) (hand : Hand) (code : ℕ) → spelling_pieces form d (text_entry set hand code) ≡ text_byte_piece set code ∷ []
-typed_spelled form d set hand code = by (format_effector code)
-  where
-    by : (step : Option TextStep) → spelling_pieces form d (text_entry_as step set hand code) ≡ text_byte_piece_as step set code ∷ []
-    by (Some step) = refl
-    by None = refl
+typed_spelled form d set hand code = grind arith
 
 pub next_typed : (form : Form) (d : Drawing) (batch : Batch) (set : CharSet) (codes : _) (pen : Pen) (drawing : _) (index code : ℕ) (rest : List ℕ) →
     batch ≡ Batch.Text set codes pen drawing → drop index codes.now ≡ code ∷ rest → (e : Entry) (es : List Entry) → drop index (batch_entries batch) ≡ e ∷ es →
@@ -102,31 +90,13 @@ joined_none first_size size form text_end s = record { each = tt; writes = refl;
 -- other forms of the same
 joined_as : (first_size first_size' size : ℕ) (form : Form) (text_end : TextEnd) (s : State) (list : List Entry) (bytes bytes' : List ℕ) (end end' : TextEnd) → first_size ≡ first_size' → bytes ≡ bytes' → end ≡ end' →
     Joined first_size size form text_end s list bytes end → Joined first_size' size form text_end s list bytes' end'
-joined_as first_size first_size' size form text_end s list bytes bytes' end end' same spelled ends joined = record {
-  each = subst (λ (n : ℕ). EachWrites n size form text_end s list) same joined.each;
-  writes = joined.writes ∙ spelled;
-  ends = joined.ends ∙ ends;
-}
+joined_as first_size first_size' size form text_end s list bytes bytes' end end' same spelled ends joined = grind arith
 
 joined_more : (first_size size : ℕ) (form : Form) (text_end next : TextEnd) (s : State) (e : Entry) (list : List Entry) (piece : Piece) (first rest : List ℕ) (end : TextEnd) →
     entry_pieces form s e ≡ piece ∷ [] → piece_bytes text_end piece ≡ first → length first ≡ first_size → text_end_after_piece text_end piece ≡ next →
     Joined size size form next (after s e) list rest end → Joined first_size size form text_end s (e ∷ list) (first ++ rest) end
 unfolding EachWrites pieces pieces_bytes text_end_after
-joined_more first_size size form text_end next s e list piece first rest end is bytes count next_end more =
-    let alone : pieces_bytes text_end (entry_pieces form s e) ≡ first = one_written form text_end s e piece is ∙ bytes in
-    let moved : text_end_after text_end (entry_pieces form s e) ≡ next = one_after form text_end s e piece is ∙ next_end in
-    record {
-      each = (ap length alone ∙ count, subst (λ (t : TextEnd). EachWrites size size form t (after s e) list) (sym moved) more.each);
-      writes =
-          pieces_bytes-append text_end (entry_pieces form s e) (pieces form (after s e) list)
-          ∙ ap (λ (bs : List ℕ). bs ++ pieces_bytes (text_end_after text_end (entry_pieces form s e)) (pieces form (after s e) list)) alone
-          ∙ ap (λ (t : TextEnd). first ++ pieces_bytes t (pieces form (after s e) list)) moved
-          ∙ ap (λ (bs : List ℕ). first ++ bs) more.writes;
-      ends =
-          text_end_after-append text_end (entry_pieces form s e) (pieces form (after s e) list)
-          ∙ ap (λ (t : TextEnd). text_end_after t (pieces form (after s e) list)) moved
-          ∙ more.ends;
-    }
+joined_more first_size size form text_end next s e list piece first rest end is bytes count next_end more = grind (arith, one_written, one_after, length, pieces_bytes-append, text_end_after-append)
 
 -- points, after their opcode
 
@@ -190,9 +160,7 @@ same_points p = grind (arith, nat_tests)
 
 -- a line from the pen
 line_from_pen : (pen : Pen) (from to : Coordinates) → pen ≡ At from → line_piece Two pen from to ≡ group 0x28 (point_bytes to)
-line_from_pen pen from to is =
-    let same : same_pen pen (At from) ≡ true = ap (λ (pen : Pen). same_pen pen (At from)) is ∙ same_points from in
-    rw same refl
+line_from_pen pen from to is = grind (arith, same_points)
 
 lines_each : (s : State) (d : Drawing) (from : Coordinates) (ps : List Coordinates) → s.drawing.pen ≡ At from → EachIsCurrent s (polyline_entries d from ps) → EachPoint 0x28 s (polyline_entries d from ps) ps
 unfolding EachPoint EachIsCurrent polyline_entries
@@ -204,12 +172,7 @@ lines_each s d from (p ∷ ps) pen all_current =
 -- primary characters while they are in GL, and moves among them
 
 effector_bytes : {byte : ℕ} {step : TextStep} → FormatEffector byte step → step_bytes step ≡ byte ∷ []
-effector_bytes backward = refl
-effector_bytes forward = refl
-effector_bytes down = refl
-effector_bytes up = refl
-effector_bytes return = refl
-effector_bytes home = refl
+effector_bytes h = grind arith
 
 -- each is its own byte, after which the primary characters are in GL
 typed_alone : (code : ℕ) → (piece_bytes (NoRun G0) (text_byte_piece Primary code) ≡ code ∷ []) × (text_end_after_piece (NoRun G0) (text_byte_piece Primary code) ≡ NoRun G0)
@@ -375,27 +338,7 @@ parted_first form text_end s e es n few = record {
 pub parted_after : (form : Form) (text_end : TextEnd) (s : State) (e : Entry) (es : List Entry) (k n m : ℕ) → n ≡ length (pieces_bytes text_end (entry_pieces form s e)) + m →
     Parted form (text_end_after text_end (entry_pieces form s e)) (after s e) es k m → Parted form text_end s (e ∷ es) (suc k) n
 unfolding pieces pieces_bytes text_end_after walk
-parted_after form text_end s e es k n m is more =
-    let first = entry_pieces form s e in
-    let t = text_end_after text_end first in
-    let prefix = pieces form (after s e) (take k es) in
-    let next = entry_pieces form (walk (after s e) (take k es)) more.next in
-    let next_end : text_end_after text_end (first ++ prefix) ≡ text_end_after t prefix = text_end_after-append text_end first prefix in
-    record {
-      next = more.next;
-      rest = more.rest;
-      parts = ap (λ (list : List Entry). e ∷ list) more.parts;
-      part = more.part;
-      less = subst (λ (u : TextEnd). more.part < length (pieces_bytes u next)) (sym next_end) more.less;
-      cut =
-          ap (take n) (pieces_bytes-append text_end first (pieces form (after s e) es))
-          ∙ ap (λ (n : ℕ). take n (pieces_bytes text_end first ++ pieces_bytes t (pieces form (after s e) es))) is
-          ∙ take-append-add (pieces_bytes text_end first) (pieces_bytes t (pieces form (after s e) es)) m
-          ∙ ap (λ (bs : List ℕ). pieces_bytes text_end first ++ bs) more.cut
-          ∙ sym (append_assoc (pieces_bytes text_end first) (pieces_bytes t prefix) (take more.part (pieces_bytes (text_end_after t prefix) next)))
-          ∙ ap (λ (bs : List ℕ). bs ++ take more.part (pieces_bytes (text_end_after t prefix) next)) (sym (pieces_bytes-append text_end first prefix))
-          ∙ ap (λ (u : TextEnd). pieces_bytes text_end (first ++ prefix) ++ take more.part (pieces_bytes u next)) (sym next_end);
-    }
+parted_after form text_end s e es k n m is more = grind (arith, text_end_after-append, length, pieces_bytes-append, take-append-add, append_assoc)
 
 pub each_prefix : (first_size size : ℕ) (form : Form) (text_end : TextEnd) (s : State) (list : List Entry) (k n : ℕ) → EachWrites first_size size form text_end s list → k < length list → Whole first_size size n k →
     Parted form text_end s list k n
@@ -411,15 +354,7 @@ each_prefix first_size size form text_end s (e ∷ es) (suc k) n each less whole
 -- the number of bytes of entries, and how many of them were written completely
 
 pub joined_length : (batch : Batch) (first count : ℕ) → count + first ≤ length (batch_entries batch) → length (joined_bytes batch first count) ≡ entry_size batch * count
-joined_length (Batch.Points points drawing) first count few =
-    points_size (take count (drop first points.now))
-    ∙ ap (λ (n : ℕ). 8 * n) (length-take-le count (drop first points.now) (omega (arith, few, length-map points.now (point_entry drawing.now), length-drop first points.now)))
-joined_length (Batch.Lines from points drawing) first count few =
-    points_size (take count (drop first points.now))
-    ∙ ap (λ (n : ℕ). 8 * n) (length-take-le count (drop first points.now) (omega (arith, few, lines_count drawing.now from points.now, length-drop first points.now)))
-joined_length (Batch.Text set codes pen drawing) first count few =
-    let all = text_count set (record (hand_of drawing.now) { pen = pen }) codes.now in
-    omega (arith, length-take-le count (drop first codes.now) (omega (arith, few, all, length-drop first codes.now)))
+joined_length batch first count h = grind (arith, points_size, length-take-le, length-map, length-drop, lines_count, text_count)
 
 -- bytes of an opening and of entries that were cut
 module _ (begin : List ℕ) (batch : Batch) (first count n : ℕ) (few : count + first ≤ length (batch_entries batch)) (some : 0 < count) (less : n < length (begin ++ joined_bytes batch first count)) where
@@ -427,28 +362,16 @@ module _ (begin : List ℕ) (batch : Batch) (first count n : ℕ) (few : count +
   fewer = omega (arith, less, length-append begin (joined_bytes batch first count), joined_length batch first count few)
 
   pub whole_less : (n - length begin) / entry_size batch < count
-  whole_less = by batch fewer
-    where
-      by : (batch : Batch) → n < length begin + entry_size batch * count → (n - length begin) / entry_size batch < count
-      by (Batch.Points points drawing) less = omega (arith, some, less)
-      by (Batch.Lines from points drawing) less = omega (arith, some, less)
-      by (Batch.Text set codes pen drawing) less = omega (arith, some, less)
+  whole_less = grind (arith, fewer, length)
 
   pub whole_of : Whole (length begin + entry_size batch) (entry_size batch) n ((n - length begin) / entry_size batch)
-  whole_of = by batch
-    where
-      by : (batch : Batch) → Whole (length begin + entry_size batch) (entry_size batch) n ((n - length begin) / entry_size batch)
-      by (Batch.Points points drawing) = record { from = λ some. omega (arith, some); to = omega arith }
-      by (Batch.Lines from points drawing) = record { from = λ some. omega (arith, some); to = omega arith }
-      by (Batch.Text set codes pen drawing) = record { from = λ some. omega (arith, some); to = omega arith }
+  whole_of = grind (arith, length)
 
 -- bytes are entries of one byte, after no opening
 pub whole_bytes : {S : Type 0} (sent : S → List ℕ → Bool → S → Type 0) (s t : S) (bytes : List ℕ) (r : Result (Unit {0}) ℕ) → SentUpTo sent s bytes t r → SentWhole sent s [] 1 bytes t r
-whole_bytes sent s t bytes (Ok x) put = put
-whole_bytes sent s t bytes (Err n) put = (n, omega arith, put)
+whole_bytes sent s t bytes r h = grind arith
 
 -- fewer of them were written completely
 pub whole_few : {S : Type 0} (sent : S → List ℕ → Bool → S → Type 0) (a b : S) (begin : List ℕ) (batch : Batch) (first count k : ℕ) → 0 < count →
     count + first ≤ length (batch_entries batch) → SentWhole sent a begin (entry_size batch) (joined_bytes batch first count) b (Err k) → k + first ≤ length (batch_entries batch)
-whole_few sent a b begin batch first count k some few put =
-    omega (arith, few, put.1, whole_less begin batch first count put.0 few some put.2.less)
+whole_few sent a b begin batch first count k some few put = grind (arith, whole_less)

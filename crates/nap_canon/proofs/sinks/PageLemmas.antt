@@ -1,28 +1,20 @@
 -- The text of a page in memory.
 
-use Rattle.nap_canon.proofs.Common.{Appends, Canonical, Entry, Err, Fault, Ghosts, IsCounted, IsRead, List, Option, RefusesPage, Some, StartsText, Took, [], ap, false, refl, refusal_of_text, subst, text, ℕ, ◌++◌, ◌∙◌, ◌≡◌}
+use Rattle.nap_canon.proofs.Common.{Canonical, Entry, Err, Fault, Ghosts, IsCounted, IsRead, List, RefusesPage, Some, StartsText, Took, [], arith, false, refusal_of_text, text, ℕ, ◌≡◌}
 use Rattle.nap_list.specs.declared.device.Outlet as outlet
 use Rattle.nap_canon.proofs.sinks.SinkingLemmas.{sink_writes_text}
 
 -- the text that a sink wrote to an outlet that tells its bytes and had none
 pub text_written : {O : Type 0} (o : outlet.Ghosts O) (w : O) (s t : Canonical O) (begins : StartsText o w s) (works : o.failed s.outlet ≡ false) (items : O → List ℕ) →
     ((u : O) → o.taken u ≡ Some (items u)) → items w ≡ [] → (d : List Entry) → Took o s d t → items t.outlet ≡ text d
-text_written o w s t begins works items tells empty d took =
-    let taken : Appends (o.taken w) (o.taken t.outlet) (text d) = (sink_writes_text o w s t d begins works took).grows.taken in
-    let text_is : Appends (Some (items w)) (Some (items t.outlet)) (text d) =
-    subst (λ (a : Option (List ℕ)). Appends a (Some (items t.outlet)) (text d)) (tells w) (subst (λ (b : Option (List ℕ)). Appends (o.taken w) b (text d)) (tells t.outlet) taken) in
-    text_is ∙ ap (λ (bytes : List ℕ). bytes ++ text d) empty
+text_written o w s t begins works items tells empty d took = grind (arith, sink_writes_text)
 
 -- a page was refused whose text went into a sink that fails if memory runs out
 pub refuses_page : {S : Type 0} (g : Ghosts S) (s : S) (budget : ℕ) (p : List ℕ) (f : Fault) (place : ℕ) → IsCounted g s budget p (Err (record { fault = f; place = place })) →
     RefusesPage budget p (refusal_of_text (record { fault = f; place = place }))
-refuses_page g s budget p Fault.Memory place h = record { refused = λ no. absurd (no refl); memory = λ _. h.counts.0 }
-refuses_page g s budget p Fault.Sink place h = record { refused = λ no. absurd (no refl); memory = λ _. h.counts.0 }
-refuses_page g s budget p f place h = record { refused = λ _. h.counts; memory = λ is. let bad : ⊥ = cc in absurd bad }
+refuses_page g s budget p f place h = grind arith
 
 -- a page was refused whose entries went into a sink that can't fail
 pub refuses_counted : {S : Type 0} (g : Ghosts S) (s : S) (sound : (t : S) → g.failed t ≡ false) (budget : ℕ) (p : List ℕ) (f : Fault) (place : ℕ) →
     IsRead g s budget p (Err (record { fault = f; place = place })) → RefusesPage budget p (record { fault = f; place = place })
-refuses_counted g s sound budget p Fault.Memory place h = record { refused = λ no. absurd (no refl); memory = λ _. h.collects.0 }
-refuses_counted g s sound budget p Fault.Sink place h = let (breaks, (t, failed, took)) = h.collects in cc (sound t)
-refuses_counted g s sound budget p f place h = record { refused = λ _. h.collects; memory = λ is. let bad : ⊥ = cc in absurd bad }
+refuses_counted g s sound budget p f place h = grind arith

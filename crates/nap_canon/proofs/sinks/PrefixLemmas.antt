@@ -1,7 +1,6 @@
 -- Entries that are one write: those that join the end of the text, and an entry with those that join after it.
 
-use Rattle.nap_canon.proofs.Common.{AppendsNext, Batch, Bool, Coordinates, CutAfter, Drawing, EachIsCurrent, Entry, Err, Form, Joins, JoinsAfter, List, Ok, Parted, Pending, Piece, PutsPrefix, RestIsCurrent, Result, SendsPartly, SendsWholly, State, TextEnd, Writer, WritesWhole, [], after, ap, arith, batch_entries, bytes_of_rest, drop, drop-drop, entry_pieces, entry_size, false, joined_bytes, last_point, length, length-append, length-drop, length-take-le, opening, pieces, pieces_bytes, pieces_bytes-append, polyline_entries, refl, subst, suc, sym, take, text_end_after, text_end_after-append, text_end_after_joined, text_end_after_rest, walk, zero, ℕ, ◌*◌, ◌++◌, ◌+◌, ◌-◌, ◌/◌, ◌<◌, ◌∙◌, ◌∷◌, ◌≡◌, ◌≤◌}
-use Rattle.nap_list.specs.declared.attribute.Pen.TheVariants.{At}
+use Rattle.nap_canon.proofs.Common.{AppendsNext, At, Batch, Bool, Coordinates, CutAfter, Drawing, EachIsCurrent, Entry, Err, Form, Joins, JoinsAfter, List, Ok, Parted, Pending, Piece, PutsPrefix, RestIsCurrent, Result, SendsPartly, SendsWholly, State, TextEnd, Writer, WritesWhole, [], after, ap, arith, batch_entries, bytes_of_rest, drop, drop-drop, entry_pieces, entry_size, false, joined_bytes, last_point, length, length-append, length-drop, length-take-le, opening, pieces, pieces_bytes, pieces_bytes-append, polyline_entries, refl, subst, suc, sym, take, text_end_after, text_end_after-append, text_end_after_joined, text_end_after_rest, walk, zero, ℕ, ◌*◌, ◌++◌, ◌+◌, ◌-◌, ◌/◌, ◌<◌, ◌∙◌, ◌∷◌, ◌≡◌, ◌≤◌}
 use Rattle.nap_canon.proofs.sinks.JoinLemmas.{Joined, batch_joins, each_prefix, joined_length, parted_after, parted_first, whole_less, whole_of}
 
 -- what a writer put of a batch from one entry on, whose entries join the end of the text, or open a run or a text
@@ -73,25 +72,19 @@ line_ends s d from (p ∷ ps) (suc n) less = line_ends s d p ps n (omega (arith,
 -- a line leaves the pen at its end
 pub line_left : (s : State) (d : Drawing) (from : Coordinates) (ps : List Coordinates) (index : ℕ) → index < length ps →
     (walk s (take 1 (drop index (polyline_entries d from ps)))).drawing.pen ≡ At (last_point from (take (index + 1) ps))
-line_left s d from ps index less =
-    let next : suc index ≡ index + 1 = omega arith in
-    line_ends s d from ps index less ∙ ap (λ (n : ℕ). At (last_point from (take n ps))) next
+line_left s d from ps index less = grind (arith, line_ends)
 
 -- some entries are appended as they join
 
 pub rest_some : (text_end : TextEnd) (batch : Batch) (first count : ℕ) → 0 < count → bytes_of_rest text_end batch first count ≡ opening text_end batch count ++ joined_bytes batch first count
-rest_some text_end batch first zero some = absurd (omega (arith, some))
-rest_some text_end batch first (suc n) some = refl
+rest_some text_end batch first count h = grind arith
 
 pub rest_ends : (text_end : TextEnd) (batch : Batch) (count : ℕ) → 0 < count → text_end_after_rest text_end batch count ≡ text_end_after_joined text_end batch count
-rest_ends text_end batch zero some = absurd (omega (arith, some))
-rest_ends text_end batch (suc n) some = refl
+rest_ends text_end batch count h = grind arith
 
 -- the bytes of the entries appended are a part of the pending text
 pub rest_size : (text_end : TextEnd) (batch : Batch) (first count : ℕ) → count + first ≤ length (batch_entries batch) → entry_size batch * count ≤ length (bytes_of_rest text_end batch first count)
-rest_size text_end batch first zero few = omega arith
-rest_size text_end batch first (suc n) few =
-    omega (arith, length-append (opening text_end batch (suc n)) (joined_bytes batch first (suc n)), joined_length batch first (suc n) few)
+rest_size text_end batch first count h = grind (arith, length-append, joined_bytes, joined_length)
 
 -- a list that isn't empty begins with an entry
 pub record Begins (list : List Entry) : Type 0 where
@@ -136,9 +129,7 @@ module _ (form : Form) (s : State) (batch : Batch) (index more : ℕ) (some : in
   rest_is = sym (drop-drop 1 index (batch_entries batch)) ∙ ap (drop 1) begins_with.is
 
   those_are : those ≡ e ∷ others
-  those_are =
-      ap (take (more + 1)) begins_with.is
-      ∙ (let next : more + 1 ≡ suc more = omega arith in ap (λ (n : ℕ). take n (e ∷ begins_with.rest)) next)
+  those_are = grind arith
 
   own_appended : r.bytes ≡ pieces_bytes before.text_end own
   own_appended = (appended e begins_with.rest begins_with.is).appended ∙ ap (λ (bs : List ℕ). bs ++ pieces_bytes before.text_end own) none
@@ -160,41 +151,19 @@ module _ (form : Form) (s : State) (batch : Batch) (index more : ℕ) (some : in
 
   rest_written : pieces_bytes r.text_end (pieces form (after s e) others) ≡ bytes_of_rest r.text_end batch (index + 1) more
   unfolding pieces pieces_bytes
-  rest_written = by more refl
-    where
-      by : (n : ℕ) → n ≡ more → pieces_bytes r.text_end (pieces form (after s e) (take n begins_with.rest)) ≡ bytes_of_rest r.text_end batch (index + 1) n
-      by zero is = refl
-      by (suc n) is =
-          subst (λ (m : ℕ). pieces_bytes r.text_end (pieces form (after s e) (take m begins_with.rest)) ≡ opening r.text_end batch m ++ joined_bytes batch (index + 1) m) (sym is)
-          (joined (omega (arith, is))).writes
+  rest_written = grind (arith, joined_bytes, joined)
 
   rest_ended : text_end_after r.text_end (pieces form (after s e) others) ≡ text_end_after_rest r.text_end batch more
   unfolding pieces text_end_after
-  rest_ended = by more refl
-    where
-      by : (n : ℕ) → n ≡ more → text_end_after r.text_end (pieces form (after s e) (take n begins_with.rest)) ≡ text_end_after_rest r.text_end batch n
-      by zero is = refl
-      by (suc n) is =
-          subst (λ (m : ℕ). text_end_after r.text_end (pieces form (after s e) (take m begins_with.rest)) ≡ text_end_after_joined r.text_end batch m) (sym is) (joined (omega (arith, is))).ends
+  rest_ended = grind (arith, joined)
 
   all_written : u.bytes ≡ pieces_bytes before.text_end (pieces form s those)
   unfolding pieces
-  all_written =
-      bytes
-      ∙ ap (λ (bs : List ℕ). bs ++ bytes_of_rest r.text_end batch (index + 1) more) own_appended
-      ∙ ap (λ (bs : List ℕ). pieces_bytes before.text_end own ++ bs) (sym rest_written)
-      ∙ ap (λ (t : TextEnd). pieces_bytes before.text_end own ++ pieces_bytes t (pieces form (after s e) others)) own_ends
-      ∙ sym (pieces_bytes-append before.text_end own (pieces form (after s e) others))
-      ∙ ap (λ (list : List Entry). pieces_bytes before.text_end (pieces form s list)) (sym those_are)
+  all_written = grind (arith, own_appended, rest_written, own_ends, pieces_bytes-append, those_are)
 
   all_ended : u.text_end ≡ text_end_after before.text_end (pieces form s those)
   unfolding pieces
-  all_ended =
-      ends
-      ∙ sym rest_ended
-      ∙ ap (λ (t : TextEnd). text_end_after t (pieces form (after s e) others)) own_ends
-      ∙ sym (text_end_after-append before.text_end own (pieces form (after s e) others))
-      ∙ ap (λ (list : List Entry). text_end_after before.text_end (pieces form s list)) (sym those_are)
+  all_ended = grind (arith, rest_ended, own_ends, text_end_after-append, those_are)
 
   enough : more + 1 ≤ length (drop index (batch_entries batch))
   enough = omega (arith, few, length-drop index (batch_entries batch))
@@ -205,14 +174,7 @@ module _ (form : Form) (s : State) (batch : Batch) (index more : ℕ) (some : in
 
     module _ (n : ℕ) (cut : CutAfter sends from u.bytes n to) where
       pub sends_none : n < length r.bytes → SendsPartly sends form s (drop index (batch_entries batch)) before.text_end from to 0
-      sends_none less = record {
-        count = more + 1;
-        few = enough;
-        less = omega arith;
-        far = n;
-        cut = subst (λ (bs : List ℕ). CutAfter sends from bs n to) all_written cut;
-        parted = subst (λ (list : List Entry). Parted form before.text_end s list 0 n) (sym those_are) (parted_first form before.text_end s e others n (omega (arith, less, ap length own_appended)));
-      }
+      sends_none less = grind (arith, enough, all_written, those_are, parted_first, length, own_appended)
 
       module _ (k : ℕ) (low : length r.bytes ≤ n) (is : k ≡ (n - (length u.bytes - size * more)) / size) where
         -- how far the cut is after the first entry
@@ -226,13 +188,7 @@ module _ (form : Form) (s : State) (batch : Batch) (index more : ℕ) (some : in
         lengths = ap length bytes ∙ length-append r.bytes (bytes_of_rest r.text_end batch (index + 1) more)
 
         more_than_none : 0 < more
-        more_than_none = by more refl
-          where
-            by : (m : ℕ) → m ≡ more → 0 < more
-            by zero zero_is =
-                let none : length (bytes_of_rest r.text_end batch (index + 1) more) ≡ 0 = ap (λ (m : ℕ). length (bytes_of_rest r.text_end batch (index + 1) m)) (sym zero_is) in
-                absurd (omega (arith, low, cut.less, lengths, none))
-            by (suc m) is = omega (arith, is)
+        more_than_none = grind (arith, length, lengths)
 
         rest_length : length u.bytes ≡ length r.bytes + length (begin ++ joined_bytes batch (index + 1) more)
         rest_length = lengths ∙ ap (λ (bs : List ℕ). length r.bytes + length bs) (rest_some r.text_end batch (index + 1) more more_than_none)
@@ -241,10 +197,7 @@ module _ (form : Form) (s : State) (batch : Batch) (index more : ℕ) (some : in
         within = omega (arith, low, cut.less, rest_length)
 
         same : k ≡ (beyond - length begin) / size
-        same =
-            let past : n - (length u.bytes - size * more) ≡ beyond - length begin =
-            omega (arith, rest_length, length-append begin (joined_bytes batch (index + 1) more), joined_length batch (index + 1) more few) in
-            is ∙ ap (λ (m : ℕ). m / size) past
+        same = grind (arith, length, rest_length, length-append, joined_bytes, joined_length)
 
         few_whole : (beyond - length begin) / size < more
         few_whole = whole_less begin batch (index + 1) more beyond few more_than_none within
@@ -262,11 +215,4 @@ module _ (form : Form) (s : State) (batch : Batch) (index more : ℕ) (some : in
             (parted_after form before.text_end s e others j n beyond (omega (arith, low, ap length own_appended)) (subst (λ (t : TextEnd). Parted form t (after s e) others j beyond) own_ends part)))
 
         pub sends_cut : SendsPartly sends form s (drop index (batch_entries batch)) before.text_end from to (k + 1)
-        sends_cut = record {
-          count = more + 1;
-          few = enough;
-          less = omega (arith, few_whole, same);
-          far = n;
-          cut = subst (λ (bs : List ℕ). CutAfter sends from bs n to) all_written cut;
-          parted = cut_parted;
-        }
+        sends_cut = grind (arith, enough, few_whole, same, all_written, cut_parted)

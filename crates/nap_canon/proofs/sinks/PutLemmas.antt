@@ -1,32 +1,19 @@
 -- What a canonical sink that hasn't failed takes of a batch.
 
-use Rattle.nap_canon.proofs.Common.{AreCurrent, Attributes, Batch, Bool, Broke, Canonical, CharSet, Coordinates, CutAfter, Drawing, EachIsCurrent, Entry, Err, FirstIsCurrent, Grows, HaltsAfter, Hand, List, None, Ok, OnErr, Option, Output, Put, PutSome, PutsAfter, PutsPrefix, PutsSome, Putting, Result, Sends, Some, State, TakesAll, TextStep, Took, WantsMore, Writer, [], after, ap, append-nil, append_assoc, arith, attributes, batch_attributes, batch_entries, batch_is_current, canon_sink_model, drop, drop-drop, entry_bytes, entry_pieces, false, false≢true, format_effector, grows_more, hand_attributes, hand_of, ink_attributes, ink_of, inl, inr, is_err, length, length-append, length-drop, length-take-le, line_entry, map, pieces_bytes, point_attributes, point_entry, polyline_entries, put_begins, put_ends, put_goes, put_halts, refl, sending, sending_of, slice_index, some_put, subst, suc, sym, take, take-append-drop, take-take, text_entries_in, text_entry, text_entry_as, took_broke, took_more, took_none, true, walk, zero, ℕ, ◌++◌, ◌+◌, ◌<◌, ◌∙◌, ◌∷◌, ◌≡◌, ◌≤◌}
+use Rattle.nap_canon.proofs.Common.{AreCurrent, Attributes, Batch, Bool, Broke, Canonical, CharSet, Coordinates, CutAfter, Drawing, EachIsCurrent, Entry, Err, FirstIsCurrent, Grows, Hand, List, Ok, OnErr, Output, Put, PutSome, PutsAfter, PutsPrefix, PutsSome, Putting, Result, Sends, State, TakesAll, Took, WantsMore, Write, Writer, [], after, ap, append-nil, append_assoc, arith, attributes, batch_attributes, batch_entries, batch_is_current, canon_sink_model, drop, drop-drop, entry_bytes, entry_pieces, false, false≢true, grows_more, hand_attributes, hand_of, ink_attributes, ink_of, is_err, length, length-append, length-drop, length-take-le, line_entry, map, pieces_bytes, point_attributes, point_entry, polyline_entries, put_begins, put_ends, put_goes, put_halts, refl, sending, sending_of, some_put, subst, suc, sym, take, take-append-drop, take-take, text_entries_in, text_entry, took_broke, took_more, took_none, true, walk, zero, ℕ, ◌++◌, ◌+◌, ◌<◌, ◌∙◌, ◌∷◌, ◌≡◌, ◌≤◌}
 use Rattle.nap_list.specs.declared.device.Outlet as outlet
-use Rattle.nap_list.specs.declared.sink.SinkFault.TheVariants.{Write}
 use Rattle.nap_canon.proofs.sinks.JoinLemmas.{rest_current}
 use Rattle.nap_canon.proofs.sinks.SinkingLemmas.{broke_answered}
 
 module _ {O : Type 0} (o : outlet.Ghosts O) (s t : Canonical O) (works : o.failed s.outlet ≡ false) where
   -- all of a list was taken
   pub takes_all : (list : List Entry) → Took o s list t → TakesAll (canon_sink_model o) list s t
-  takes_all list took = record {
-    took = took;
-    state = took.state;
-    works = λ _. took.bytes.failed ∙ works;
-    none = λ failed. absurd (false≢true (sym works ∙ failed));
-  }
+  takes_all list took = grind (arith, false≢true)
 
   -- a list was taken up to an entry that failed
   pub breaks_at : (list prefix rest : List Entry) (next : Entry) (n : ℕ) → list ≡ prefix ++ next ∷ rest → length prefix ≡ n → Broke o s prefix next t →
       Put (canon_sink_model o) list s t (Err (record { taken = n; fault = Write }))
-  breaks_at list prefix rest next n parts count broke = (
-    inr (record { prefix = prefix; next = next; rest = rest; parts = parts; count = count; broken = broke }),
-    record {
-      write = λ _. broke.failed;
-      memory = λ e. (let bad : ⊥ = cc in absurd bad);
-      none = λ failed. absurd (false≢true (sym works ∙ failed));
-    },
-  )
+  breaks_at list prefix rest next n parts count broke = grind (arith, false≢true)
 
   -- an entry failed
   pub one_breaks : {E : Type 0} (e : Entry) (r : Result (Unit {0}) E) → is_err r ≡ true → Sends (sending_of o s) (pieces_bytes s.text_end (entry_pieces s.form s.state e)) (is_err r) (sending_of o t) →
@@ -36,10 +23,7 @@ module _ {O : Type 0} (o : outlet.Ghosts O) (s t : Canonical O) (works : o.faile
 
 -- a sink that has failed takes nothing of a list
 pub none_put : {O : Type 0} (o : outlet.Ghosts O) (s : Canonical O) (list : List Entry) → o.failed s.outlet ≡ true → PutsSome o list s s (Err 0)
-none_put o s list failed = (
-  inl (failed, refl, refl),
-  record { write = λ _. failed; memory = λ e. (let bad : ⊥ = cc in absurd bad); none = λ _. (refl, refl, refl) },
-)
+none_put o s list failed = grind arith
 
 -- the sink that holds a writer
 abbrev pub sink_of_writer : {O F : Type 0} → Writer (Output O) F → Canonical O
@@ -58,17 +42,10 @@ module _ {O F : Type 0} (o : outlet.Ghosts O) (w v : Writer (Output O) F) (works
 
   -- the bytes taken before the failure
   cut_grows : (bytes : List ℕ) (n : ℕ) → CutAfter (SendsTo o) w.target bytes n v.target → Grows (sending_of o s) (take n bytes) (sending_of o t)
-  cut_grows bytes n cut =
-      let prefix : List ℕ = take n bytes in
-      let byte : List ℕ = slice_index bytes n ∷ [] in
-      let none : cut.next.part ≡ 0 = omega (arith, cut.next.less) in
-      subst (λ (bs : List ℕ). Grows (sending_of o s) bs (sending_of o t)) (ap (λ (n : ℕ). prefix ++ take n byte) none ∙ append-nil prefix)
-      (grows_more (sending_of o s) (sending o cut.mid.outlet cut.mid.written) (sending_of o t) prefix (take cut.next.part byte) cut.prefix.grows cut.next.grows)
+  cut_grows bytes n cut = grind (arith, append-nil, grows_more)
 
   prefix_put : (r : Result ℕ ℕ) → PutsPrefix (SendsTo o) list w v r → PutsSome o list s t r
-  prefix_put (Ok count) put =
-      let sent = put.sent in
-      (sent.some, sent.few, takes_all o s t works (take count list) (record { bytes = sent.sent; form = put.form; text_end = sent.ends; state = put.state }))
+  prefix_put (Ok count) put = grind (arith, takes_all)
   prefix_put (Err k) put =
       let sent = put.sent in
       let parted = sent.parted in
@@ -90,31 +67,26 @@ module _ {O F : Type 0} (o : outlet.Ghosts O) (w v : Writer (Output O) F) (works
 
 pub next_put : {O F : Type 0} (o : outlet.Ghosts O) (w v : Writer (Output O) F) (s : Canonical O) → sink_of_writer w ≡ s → o.failed s.outlet ≡ false → (list : List Entry) (r : Result ℕ ℕ) →
     PutsPrefix (SendsTo o) list w v r → PutsSome o list s (sink_of_writer v) r
-next_put o w v s is works list r put =
-    subst (λ (s : Canonical _). PutsSome o list s (sink_of_writer v) r) is (prefix_put o w v (subst (λ (s : Canonical _). o.failed s.outlet ≡ false) (sym is) works) list r put)
+next_put o w v s is works list r put = grind (arith, prefix_put)
 
 -- a list that is put part by part
 
 -- the attributes of a byte of a text, and of the first entry of a batch
 
 typed_attributes : (set : CharSet) (hand : Hand) (code : ℕ) → attributes (text_entry set hand code) ≡ hand_attributes hand
-typed_attributes set hand code = by (format_effector code)
-  where
-    by : (step : Option TextStep) → attributes (text_entry_as step set hand code) ≡ hand_attributes hand
-    by (Some step) = refl
-    by None = refl
+typed_attributes set hand code = grind arith
 
 pub first_holds : (batch : Batch) (e : Entry) (es : List Entry) → batch_entries batch ≡ e ∷ es → batch_attributes batch ≡ attributes e
 unfolding polyline_entries text_entries_in
 first_holds (Batch.Points points drawing) e es all = by points.now all
   where
     by : (ps : List Coordinates) → map (point_entry drawing.now) ps ≡ e ∷ es → point_attributes drawing.now.pel drawing.now.colour ≡ attributes e
-    by [] all = let bad : ⊥ = cc in absurd bad
+    by [] all = cc
     by (p ∷ ps) all = let same : point_entry drawing.now p ≡ e = cc in ap attributes same
 first_holds (Batch.Lines from points drawing) e es all = by points.now all
   where
     by : (ps : List Coordinates) → polyline_entries drawing.now from ps ≡ e ∷ es → ink_attributes (ink_of drawing.now) ≡ attributes e
-    by [] all = let bad : ⊥ = cc in absurd bad
+    by [] all = cc
     by (p ∷ ps) all = let same : line_entry drawing.now from p ≡ e = cc in ap attributes same
 first_holds (Batch.Text set codes pen drawing) e es all = by codes.now all
   where
@@ -122,13 +94,11 @@ first_holds (Batch.Text set codes pen drawing) e es all = by codes.now all
     hand = record (hand_of drawing.now) { pen = pen }
 
     by : (cs : List ℕ) → text_entries_in set hand cs ≡ e ∷ es → hand_attributes hand ≡ attributes e
-    by [] all = let bad : ⊥ = cc in absurd bad
+    by [] all = cc
     by (c ∷ cs) all = let same : text_entry set hand c ≡ e = cc in sym (typed_attributes set hand c) ∙ ap attributes same
 
 first_current : (batch : Batch) (d : Drawing) → FirstIsCurrent batch d → AreCurrent (batch_attributes batch) d
-first_current (Batch.Points points drawing) d current = current
-first_current (Batch.Lines from points drawing) d current = current
-first_current (Batch.Text set codes pen drawing) d current = current
+first_current batch d h = grind arith
 
 -- if those of the first entry are current, those of each are when it comes
 pub each_current : (batch : Batch) (s : State) → FirstIsCurrent batch s.drawing → EachIsCurrent s (batch_entries batch)
@@ -164,19 +134,11 @@ wants_none o s t d e f took wants = absurd wants
 
 -- a sink that took an entry hasn't failed
 pub works_after : {O : Type 0} (o : outlet.Ghosts O) (s t : Canonical O) (list : List Entry) (n : ℕ) → PutsSome o list s t (Ok n) → o.failed t.outlet ≡ false
-works_after o s t list n some = by (o.failed s.outlet) refl
-  where
-    by : (b : Bool) → o.failed s.outlet ≡ b → o.failed t.outlet ≡ false
-    by true h = absurd (omega (arith, some.0, some.1, length-take-le n list some.1, ap length (some.2.none h).0))
-    by false h = some.2.works h
+works_after o s t list n some = grind (arith, length-take-le, length)
 
 -- how many entries of a list were taken before it halted
 pub halts_within : {O : Type 0} (o : outlet.Ghosts O) (s t : Canonical O) (list : List Entry) (n : ℕ) → PutsSome o list s t (Err n) → n ≤ length list
-halts_within o s t list n put = by put.0
-  where
-    by : HaltsAfter (canon_sink_model o) list s t n Write → n ≤ length list
-    by (inl still) = omega (arith, still.2)
-    by (inr breaks) = omega (arith, breaks.count, ap length breaks.parts, length-append breaks.prefix (breaks.next ∷ breaks.rest))
+halts_within o s t list n put = grind (arith, length, length-append)
 
 module _ {O : Type 0} (o : outlet.Ghosts O) (s t u : Canonical O) (whole list : List Entry) (taken : ℕ) (putting : Putting (canon_sink_model o) s t whole (drop taken list)) where
   -- one part more was taken

@@ -1,22 +1,14 @@
 -- What an outlet took, write after write and entry after entry.
 
-use Rattle.nap_canon.proofs.Common.{Bool, Broke, Canonical, Entry, Err, Form, List, Ok, OnErr, OnOk, Piece, Result, Sends, SendsAll, SendsSome, StartsTextIn, State, TextEnd, Took, WritesText, [], after, ap, append-nil, entry_bytes, entry_pieces, false, false≢true, header, is_err, pieces, pieces_bytes, sending, sending_of, sends_more, start, subst, sym, text_end_after, text_end_after_header, true, true≢false, walk, ℕ, ◌++◌, ◌∙◌, ◌∷◌, ◌≡◌}
+use Rattle.nap_canon.proofs.Common.{Bool, Broke, Canonical, Entry, Err, Form, List, Ok, OnErr, OnOk, Result, Sends, SendsAll, SendsSome, StartsTextIn, Took, Two, WritesText, [], after, append-nil, arith, entry_bytes, entry_pieces, false, false≢true, header, is_err, pieces, pieces_bytes, sending, sending_of, sends_more, start, subst, text_end_after, text_end_after_header, true, true≢false, walk, ℕ, ◌∷◌, ◌≡◌}
 use Rattle.nap_list.specs.declared.device.Outlet as outlet
-use Rattle.nap_canon.specs.declared.text.Form.TheVariants.{Two}
 
 -- one entry more, or a failure amid its bytes
 
 pub took_one : {O : Type 0} (o : outlet.Ghosts O) (s t : Canonical O) (e : Entry) → SendsAll (sending_of o s) (pieces_bytes s.text_end (entry_pieces s.form s.state e)) (sending_of o t) →
     t.form ≡ s.form → t.text_end ≡ text_end_after s.text_end (entry_pieces s.form s.state e) → t.state ≡ after s.state e → Took o s (e ∷ []) t
 unfolding pieces walk
-took_one o s t e bytes form text_end state =
-    let alone : entry_pieces s.form s.state e ≡ entry_pieces s.form s.state e ++ [] = sym (append-nil (entry_pieces s.form s.state e)) in
-    record {
-      bytes = subst (λ (ps : List Piece). SendsAll (sending_of o s) (pieces_bytes s.text_end ps) (sending_of o t)) alone bytes;
-      form = form;
-      text_end = text_end ∙ ap (text_end_after s.text_end) alone;
-      state = state;
-    }
+took_one o s t e bytes form text_end state = grind (arith, append-nil)
 
 pub broke_one : {O : Type 0} (o : outlet.Ghosts O) (s t : Canonical O) (e : Entry) → SendsSome (sending_of o s) (pieces_bytes s.text_end (entry_pieces s.form s.state e)) (sending_of o t) →
     t.state ≡ s.state → Broke o s [] e t
@@ -33,16 +25,12 @@ took_answered o s t e (Err _) none bytes form text_end state = absurd (true≢fa
 
 pub broke_answered : {O T E : Type 0} (o : outlet.Ghosts O) (s t : Canonical O) (e : Entry) (r : Result T E) → is_err r ≡ true →
     Sends (sending_of o s) (pieces_bytes s.text_end (entry_pieces s.form s.state e)) (is_err r) (sending_of o t) → OnErr r (t.state ≡ s.state) → Broke o s [] e t
-broke_answered o s t e (Ok _) failed bytes state = absurd (false≢true failed)
-broke_answered o s t e (Err _) failed bytes state = broke_one o s t e bytes state
+broke_answered o s t e r h h2 h3 = grind (arith, false≢true, broke_one)
 
 module _ {O : Type 0} (form : Form) (o : outlet.Ghosts O) (w : O) (s : Canonical O) (begun : StartsTextIn form o w s) (works : o.failed s.outlet ≡ false) where
   -- the header, and then the bytes of entries, are the text
   pub first_of_text : (d : List Entry) → entry_bytes s d ≡ pieces_bytes text_end_after_header (pieces form start d)
-  first_of_text d =
-      ap (λ (f : Form). pieces_bytes s.text_end (pieces f s.state d)) begun.form_is
-      ∙ ap (λ (t : TextEnd). pieces_bytes t (pieces form s.state d)) begun.text_end
-      ∙ ap (λ (u : State). pieces_bytes text_end_after_header (pieces form u d)) begun.state
+  first_of_text d = grind arith
 
   pub header_sent : SendsAll (sending o w 0) header (sending_of o s)
   header_sent = subst (λ (broke : Bool). Sends (sending o w 0) header broke (sending_of o s)) works begun.begins

@@ -1,6 +1,6 @@
 -- The pieces of an entry: its prelude, and its own spelling.
 
-use Rattle.nap_canon.proofs.Common.{All-head, All-tail, AllFit, AllInRange, AttributesInRange, Colour, ColourInRange, Command, Drawing, Entry, Fits, Form, Hand, HandInRange, InRange, Ink, InkInRange, List, OperandLengths, Pen, PenInRange, Piece, State, TextEnd, Work, [], after, ap, append-nil, append_assoc, attributes, colour_only, command_piece, entry_pieces, false, group, hand_attributes, ink_attributes, inl, inr, joins_open_run, length, map, pen_only, prelude, refl, spelling_pieces, subst, sym, with_attributes, ℕ, ⊤, ◌++◌, ◌∙◌, ◌∷◌, ◌≡◌}
+use Rattle.nap_canon.proofs.Common.{All-head, All-tail, AllFit, AllInRange, AttributesInRange, Command, Drawing, Entry, Fits, Form, InRange, List, OperandLengths, Piece, State, TextEnd, Work, [], after, append-nil, append_assoc, arith, attributes, command_piece, entry_pieces, false, group, inl, inr, joins_open_run, length, map, prelude, refl, spelling_pieces, subst, sym, with_attributes, ℕ, ⊤, ◌++◌, ◌∷◌, ◌≡◌}
 use Rattle.nap_canon.proofs.prelude.PreludeLemmas.{prelude_leads}
 use Rattle.nap_canon.proofs.spelling.CommandLemmas.{work_at, commands_after}
 use Rattle.nap_canon.proofs.reading.ConveyLemmas.{ConveyAll, nothing, nothing_conveyed, convey_begin}
@@ -13,34 +13,8 @@ use Rattle.nap_canon.proofs.spelling.SavedLemmas.{SavesLengths, saved_after, sav
 
 -- the attributes of an entry are in range
 
-ink_in_range : (ink : Ink) → InkInRange ink → AttributesInRange (ink_attributes ink)
-ink_in_range ink inside = record { pen = tt; pel = inside.pel; colour = inside.colour; texture = inside.texture; text = tt }
-
-hand_in_range : (hand : Hand) → HandInRange hand → AttributesInRange (hand_attributes hand)
-hand_in_range hand inside = record { pen = inside.pen; pel = tt; colour = inside.colour; texture = tt; text = inside.text }
-
-colour_in_range : (colour : Colour) → ColourInRange colour → AttributesInRange (colour_only colour)
-colour_in_range colour inside = record { pen = tt; pel = tt; colour = inside; texture = tt; text = tt }
-
-pen_in_range : (pen : Pen) → PenInRange pen → AttributesInRange (pen_only pen)
-pen_in_range pen inside = record { pen = inside; pel = tt; colour = tt; texture = tt; text = tt }
-
 attributes_are_in_range : (e : Entry) → InRange e → AttributesInRange (attributes e)
-attributes_are_in_range (Entry.Point at pel colour) inside = record { pen = tt; pel = inside.1; colour = inside.2; texture = tt; text = tt }
-attributes_are_in_range (Entry.Line from to ink) inside = ink_in_range ink inside.2
-attributes_are_in_range (Entry.Arc filled points ink) inside = ink_in_range ink inside.1
-attributes_are_in_range (Entry.Rect filled from to ink) inside = ink_in_range ink inside.2
-attributes_are_in_range (Entry.Poly filled points ink) inside = ink_in_range ink inside.1
-attributes_are_in_range (Entry.Char set code hand) inside = hand_in_range hand inside.1
-attributes_are_in_range (Entry.TextMove step hand) inside = hand_in_range hand inside.1
-attributes_are_in_range (Entry.ToEol hand) inside = hand_in_range hand inside
-attributes_are_in_range (Entry.Blink a on off delay colour) inside = colour_in_range colour inside.4
-attributes_are_in_range (Entry.BlinkEnd colour) inside = colour_in_range colour inside
-attributes_are_in_range (Entry.BlinkMark on colour) inside = colour_in_range colour inside
-attributes_are_in_range (Entry.Field area pen) inside = pen_in_range pen inside.1
-attributes_are_in_range (Entry.Reset first second pen) inside = pen_in_range pen inside.2
-attributes_are_in_range (Entry.Clear pen) inside = pen_in_range pen inside
-attributes_are_in_range _ inside = record { pen = tt; pel = tt; colour = tt; texture = tt; text = tt }
+attributes_are_in_range e inside = grind arith
 
 -- the list may come from a state on
 pub record MayCome (saved : OperandLengths) (s : State) (es : List Entry) : Type 0 where
@@ -86,8 +60,7 @@ module _ (saved : OperandLengths) (s : State) (e : Entry) (es : List Entry) (may
   -- a group after the prelude
   pub group_parts : (form : Form) (byte : ℕ) (operands : List ℕ) (rest : List Piece) → spelling_pieces form (with_attributes s.drawing (attributes e)) e ≡ group byte operands ∷ [] →
       map command_piece own_commands ++ (group byte operands ∷ rest) ≡ entry_pieces form s e ++ rest
-  group_parts form byte operands rest is =
-      sym (append_assoc (map command_piece own_commands) (group byte operands ∷ []) rest) ∙ ap (λ (qs : List Piece). (map command_piece own_commands ++ qs) ++ rest) (sym is)
+  group_parts form byte operands rest is = grind (arith, append_assoc)
 
   -- the first of the bytes of an entry, whatever comes after it
 
@@ -100,7 +73,7 @@ module _ (saved : OperandLengths) (s : State) (e : Entry) (es : List Entry) (may
       where
         unmapped : (cs : List Command) → map command_piece cs ≡ [] → cs ≡ []
         unmapped [] none = refl
-        unmapped (c ∷ cs) none = let bad : ⊥ = cc in absurd bad
+        unmapped (c ∷ cs) none = cc
 
     -- its group joins no run
     abbrev pub JoinsNone : Kind form saved s e → Type 0

@@ -7,8 +7,7 @@ use Rattle.nap_canon.proofs.spelling.OperandLemmas.{word_of, no_moves, move_firs
 -- two points
 
 pub two_points : (p q : Coordinates) → IsInSquare p → IsInSquare q → moves 8 (words_of (point_bytes p ++ point_bytes q)) ≡ from_origin p ∷ from_origin q ∷ []
-two_points p q first second =
-    point_first p (point_bytes q) first ∙ ap (λ (ms : List Displacement). from_origin p ∷ ms) (point_alone q second)
+two_points p q first second = grind (arith, point_first, point_alone)
 
 -- a point, and the displacements to the others in turn
 
@@ -26,8 +25,7 @@ steps_read p (q ∷ qs) inside all =
 
 shape_read : (p : Coordinates) (qs : List Coordinates) → IsInSquare p → All IsInSquare qs →
     moves 8 (words_of (shape_bytes (p ∷ qs))) ≡ from_origin p ∷ steps_from p qs
-shape_read p qs inside all =
-    point_first p (displacement_bytes p qs) inside ∙ ap (λ (ms : List Displacement). from_origin p ∷ ms) (steps_read p qs inside all)
+shape_read p qs inside all = grind (arith, point_first, steps_read)
 
 steps_reach : (p : Coordinates) (qs : List Coordinates) → IsInSquare p → All IsInSquare qs → points_reached p (steps_from p qs) ≡ Some qs
 unfolding points_reached steps_from

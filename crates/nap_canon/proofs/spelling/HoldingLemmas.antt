@@ -1,6 +1,6 @@
 -- The state in which the attributes of an entry are current, and how the entry is drawn in it.
 
-use Rattle.nap_canon.proofs.Common.{Attributes, Base, Colour, Drawing, Entry, List, None, OperandLengths, Option, Piece, RuleResult, Some, State, Work, [], after, ap, attributes, base_after, definition_after, effect_on_drawing, known_after, last_after, refl, subst, unwrap_or, walk, with_attributes, ◌∷◌, ◌≡◌}
+use Rattle.nap_canon.proofs.Common.{Attributes, Base, Colour, Drawing, Entry, List, OperandLengths, Option, Piece, RuleResult, State, Work, [], after, arith, attributes, base_after, subst, unwrap_or, walk, with_attributes, ◌∷◌, ◌≡◌}
 use Rattle.nap_draw.specs.Rule as rule
 use Rattle.nap_canon.proofs.spelling.CommandLemmas.{work_at}
 use Rattle.nap_canon.proofs.reading.ConveyLemmas.{Conveys, ConveyAll, nothing, next}
@@ -9,34 +9,20 @@ use Rattle.nap_canon.proofs.spelling.SavedLemmas.{saved_after}
 -- taking the same attributes twice is taking them once
 
 unwrap_twice : {A : Type 0} (w : Option A) (a : A) → unwrap_or w (unwrap_or w a) ≡ unwrap_or w a
-unwrap_twice None a = refl
-unwrap_twice (Some b) a = refl
+unwrap_twice w a = grind arith
 
 base_twice : (base : Base) (w : Option Colour) → base_after (base_after base w) w ≡ base_after base w
-base_twice base None = refl
-base_twice base (Some (Colour.Own origin)) = refl
-base_twice base (Some (Colour.Direct grb)) = refl
-base_twice base (Some (Colour.Front a)) = refl
-base_twice base (Some (Colour.Pair a b)) = refl
-base_twice base (Some (Colour.ByReset preset)) = refl
+base_twice base w = grind arith
 
 taking_twice : (d : Drawing) (h : Attributes) → with_attributes (with_attributes d h) h ≡ with_attributes d h
-taking_twice d h =
-    rw (unwrap_twice h.pen d.pen, unwrap_twice h.pel d.pel, base_twice d.base h.colour, unwrap_twice h.colour d.colour, unwrap_twice h.texture d.texture, unwrap_twice h.text d.text) refl
+taking_twice d h = grind (arith, unwrap_twice, base_twice)
 
 -- the state in which the attributes of an entry are current
 abbrev pub holding : State → Entry → State
 holding s e = record s { drawing = with_attributes s.drawing (attributes e) }
 
 pub after_holding : (s : State) (e : Entry) → after (holding s e) e ≡ after s e
-after_holding s e =
-    ap (λ (d : Drawing). record {
-      drawing = effect_on_drawing s.definition d e;
-      definition = definition_after s.definition d e;
-      last = last_after e;
-      known = known_after s.known e;
-    })
-    (taking_twice s.drawing (attributes e))
+after_holding s e = grind (arith, taking_twice)
 
 -- the work in which the attributes of an entry are current
 abbrev pub work_with_attributes : OperandLengths → State → Entry → Work

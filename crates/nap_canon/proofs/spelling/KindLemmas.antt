@@ -1,8 +1,6 @@
 -- The spelling of each kind of entry whose attributes are current, and that a reader draws it.
 
-use Rattle.nap_canon.proofs.Common.{All, All-cons, All-head, All-nil, All-tail, Area, Bool, CharSet, Colour, Command, Components, Coordinates, CursorKind, Displacement, DrawFault, Drawing, Entry, Fits, Form, GSet, Hand, HasSixteenBitParts, InRange, Ink, IsAddress, IsAlone, IsCode, IsGraphic, IsInSquare, IsPlainCode, IsSome, IsWord, LastChar, List, Mask, MayFollowCode, ModeZeroIsBase, None, Ok, Opcode, OpenDefinition, OperandLengths, Option, Pen, Piece, Result, RuleResult, Some, Spells, State, StepMade, TextStep, [], addr_bytes, after, ap, arc_on, arc_points, arith, attributes, char_piece, code_rule, colour_prelude, control, control0_rows, control1_rows, cursor_byte, definition_ended_by, definition_opened, displacements_lead_there, domain, domain_again, escape, false, grb_bytes, group, if◌then◌else◌, inl, inr, is_known, joinable_piece, left_out_opcode, length, map_pieces, mask_byte, mask_rows, nat_tests, no_operands, non_pdi_code, opcode, opcode_rows, point_bytes, points_limit, points_reached, poly_on, poly_points, refl, row_of, rule, rule_result, run_limit, same_pen, shape_bytes, shape_from_point, spelling_pieces, start_domain, step_bytes, subst, sym, text_lengths, true, walk, with_attributes, with_colour, with_last, word_byte, words_of, ℕ, ◌%◌, ◌*◌, ◌++◌, ◌+◌, ◌-◌, ◌/◌, ◌<◌, ◌==◌, ◌∙◌, ◌∷◌, ◌≡◌, ◌≤◌, ◌⊎◌}
-use Rattle.nap_codes.specs.declared.code.Code.{Code}
-use Rattle.nap_codes.specs.declared.control.Row.TheVariants.{Whole}
+use Rattle.nap_canon.proofs.Common.{All, All-cons, All-head, All-nil, All-tail, Area, Bool, CharSet, Code, Colour, Command, Components, Coordinates, CursorKind, Displacement, DrawFault, Drawing, Entry, Fits, Form, GSet, Hand, HasSixteenBitParts, InRange, Ink, IsAddress, IsAlone, IsCode, IsGraphic, IsInSquare, IsPlainCode, IsSome, IsWord, LastChar, List, Mask, MayFollowCode, ModeZeroIsBase, None, Ok, Opcode, OpenDefinition, OperandLengths, Option, Pen, Piece, Result, RuleResult, Some, Spells, State, StepMade, TextStep, Whole, [], addr_bytes, after, ap, arc_on, arc_points, arith, attributes, char_piece, code_rule, colour_prelude, control, control0_rows, control1_rows, cursor_byte, definition_ended_by, definition_opened, displacements_lead_there, domain, domain_again, escape, false, grb_bytes, group, if◌then◌else◌, inr, is_known, joinable_piece, left_out_opcode, length, map_pieces, mask_byte, mask_rows, nat_tests, no_operands, non_pdi_code, opcode, opcode_rows, point_bytes, points_limit, points_reached, poly_on, poly_points, refl, row_of, rule, rule_result, run_limit, shape_bytes, shape_from_point, spelling_pieces, start_domain, step_bytes, subst, sym, text_lengths, true, walk, with_attributes, with_colour, with_last, word_byte, words_of, ℕ, ◌%◌, ◌*◌, ◌++◌, ◌+◌, ◌-◌, ◌/◌, ◌<◌, ◌==◌, ◌∙◌, ◌∷◌, ◌≡◌, ◌≤◌, ◌⊎◌}
 use Rattle.nap_codes.specs.Spelling as spells
 use Rattle.nap_canon.proofs.prelude.PreludeLemmas.{colour_leads}
 use Rattle.nap_canon.proofs.spelling.CommandLemmas.{work_at, commands_after}
@@ -80,26 +78,19 @@ module _ (saved : OperandLengths) (s : State) (hand : Hand) where
   step_draws TextStep.Aph made = effector_draws TextStep.Aph 0x1E (omega arith) refl
 
 with_some : (last : Option LastChar) (result : Result RuleResult DrawFault) → IsSome last → with_last last (λ l. result) ≡ result
-with_some (Some l) result some = refl
-with_some None result never = let bad : ⊥ = cc in absurd bad
+with_some last result h = grind arith
 
 cursor_row : (kind : CursorKind) → row_of control1_rows (cursor_byte kind) ≡ Some (Whole (Code.Cursor kind))
 unfolding row_of control1_rows
-cursor_row CursorKind.Flash = refl
-cursor_row CursorKind.Steady = refl
-cursor_row CursorKind.Off = refl
+cursor_row kind = grind arith
 
 mark_row : (on : Bool) → row_of control1_rows (if on then 0x4E else 0x5E) ≡ Some (Whole (Code.BlinkMark on))
 unfolding row_of control1_rows
-mark_row true = refl
-mark_row false = refl
+mark_row on = grind arith
 
 mask_row : (mask : Mask) → row_of mask_rows (mask_byte mask) ≡ Some mask
 unfolding row_of mask_rows
-mask_row Mask.A = refl
-mask_row Mask.B = refl
-mask_row Mask.C = refl
-mask_row Mask.D = refl
+mask_row mask = grind arith
 
 -- a colour of the colour map, after its address is selected
 map_draws : (saved : OperandLengths) (s : State) (a : ℕ) (grb : Components) → IsAddress a → HasSixteenBitParts grb → ModeZeroIsBase s.drawing.base s.drawing.colour → is_known a grb s.known ≡ false →
@@ -119,9 +110,7 @@ map_draws saved s a grb address colour mode new =
 -- RESET, with DOMAIN after it if it resets the operand lengths
 
 even_word : (first : ℕ) → (first % 2 == 1) ≡ false → (word_byte first - 64) % 2 ≡ 1 → ⊥
-even_word first even odd =
-    let is : first % 2 ≡ 1 = ap (λ (n : ℕ). n % 2) (sym (word_of first)) ∙ odd in
-    grind (arith, nat_tests)
+even_word first even odd = grind (arith, nat_tests, word_of)
 
 reset_draws : (saved : OperandLengths) (s : State) (first second : ℕ) (pen : Pen) → IsWord first → IsWord second →
     Draws saved s (Entry.Reset first second pen) (opcode 0x20 (word_byte first ∷ word_byte second ∷ []) ∷ domain_again first)
@@ -154,7 +143,7 @@ opens saved s e = definition_opened (rule_result (work_with_attributes saved s e
 
 end_draws : (saved : OperandLengths) (s : State) (o : Option OpenDefinition) → s.definition ≡ o → IsSome o → SavesLengths saved o → Draws saved s Entry.DefEnd (escape 0x45 ∷ [])
 unfolding walk row_of control1_rows
-end_draws saved s None is never kept = let bad : ⊥ = cc in absurd bad
+end_draws saved s None is never kept = cc
 end_draws saved s (Some opened) is some kept =
     let d : RuleResult = definition_ended_by (work_with_attributes saved s Entry.DefEnd) (Some opened) in
     subst (λ (lengths : OperandLengths). ConveyAll (work_with_attributes saved s Entry.DefEnd) (escape 0x45 ∷ []) (Entry.DefEnd ∷ []) (record (work_at saved (after s Entry.DefEnd)) { domain = lengths })) kept
@@ -173,20 +162,12 @@ Kind form saved s e = ByGroup form saved s e ⊎ Draws saved s e (spelling_piece
 
 stroke_kind : (form : Form) (saved : OperandLengths) (s : State) (e : Entry) (byte : ℕ) (operands : List ℕ) → Strokes saved s e byte operands →
     spelling_pieces form (with_attributes s.drawing (attributes e)) e ≡ joinable_piece form byte operands ∷ [] → Kind form saved s e
-stroke_kind Form.One saved s e byte operands k is = inr (subst (Draws saved s e) (sym is) (stroke_draws saved s e byte operands k))
-stroke_kind Form.Two saved s e byte operands k is = inl (record { byte = byte; operands = operands; spelled_as = is; strokes = k })
+stroke_kind form saved s e byte operands h h2 = grind (arith, stroke_draws)
 
 line_kind : (form : Form) (saved : OperandLengths) (s : State) (from to : Coordinates) (ink : Ink) → IsInSquare from → IsInSquare to → Kind form saved s (Entry.Line from to ink)
 line_kind Form.One saved s from to ink first second =
     stroke_kind Form.One saved s (Entry.Line from to ink) 0x2A (point_bytes from ++ point_bytes to) (line_strokes saved s from to ink first second) refl
-line_kind Form.Two saved s from to ink first second = by (same_pen s.drawing.pen (Pen.At from)) refl
-  where
-    by : (same : Bool) → same_pen s.drawing.pen (Pen.At from) ≡ same → Kind Form.Two saved s (Entry.Line from to ink)
-    by true is =
-        stroke_kind Form.Two saved s (Entry.Line from to ink) 0x28 (point_bytes to)
-        (on_line_strokes saved s from to ink (pen_is s.drawing.pen (Pen.At from) is) second) (rw is refl)
-    by false is =
-        stroke_kind Form.Two saved s (Entry.Line from to ink) 0x2A (point_bytes from ++ point_bytes to) (line_strokes saved s from to ink first second) (rw is refl)
+line_kind Form.Two saved s from to ink first second = grind (arith, stroke_kind, on_line_strokes, pen_is, line_strokes)
 
 pub kind : (form : Form) (saved : OperandLengths) (s : State) (e : Entry) → InRange e → Fits s e → ModeZeroIsBase s.drawing.base s.drawing.colour → SavesLengths saved s.definition → Kind form saved s e
 unfolding walk row_of control0_rows control1_rows opcode_rows left_out_opcode
@@ -215,43 +196,35 @@ kind form saved s (Entry.Poly true (p ∷ q ∷ qs) ink) inside fits mode saves 
 kind form saved s (Entry.Char set code hand) inside fits mode saves = inr (char_draws saved s hand set code fits.made)
 kind form saved s (Entry.TextMove step hand) inside fits mode saves = inr (step_draws saved s hand step fits.made)
 kind form saved s (Entry.ToEol hand) inside fits mode saves =
-    let e : Entry = Entry.ToEol hand in
-    inr (control_draws saved s e 0x1B (0x47 ∷ []) Code.ToEol (omega arith) tt tt (λ gl. spells.control1 refl) (with_some s.last (Ok (entry_drawn saved s e)) fits.comes))
+    inr (control_draws saved s (Entry.ToEol hand) 0x1B (0x47 ∷ []) Code.ToEol (omega arith) tt tt (λ gl. spells.control1 refl) (with_some s.last (Ok (entry_drawn saved s (Entry.ToEol hand))) fits.comes))
 kind form saved s (Entry.Map a grb) inside fits mode saves = inr (map_draws saved s a grb inside.0 inside.1 mode fits.comes)
 kind form saved s (Entry.Blink a on off delay colour) inside fits mode saves =
-    let e : Entry = Entry.Blink a on off delay colour in
     let times : List ℕ = word_byte on ∷ word_byte off ∷ word_byte delay ∷ [] in
     let words = word_bytes on (word_byte off ∷ word_byte delay ∷ []) 2 inside.1 (word_bytes off (word_byte delay ∷ []) 1 inside.2 (word_bytes delay [] 0 inside.3 no_bytes)) in
-    inr (opcode_draws saved s e 0x3F Opcode.Blink (addr_bytes a ++ times) 7 (refl, refl, tt, omega arith) (both_bytes (addr_bytes a) times 4 3 (address_operand a inside.0) words) (omega arith)
-    (λ rest. tt) (rules.blink_rule saved (holding s e) a on off delay inside.0))
+    inr (opcode_draws saved s (Entry.Blink a on off delay colour) 0x3F Opcode.Blink (addr_bytes a ++ times) 7 (refl, refl, tt, omega arith) (both_bytes (addr_bytes a) times 4 3 (address_operand a inside.0) words) (omega arith)
+    (λ rest. tt) (rules.blink_rule saved (holding s (Entry.Blink a on off delay colour)) a on off delay inside.0))
 kind form saved s (Entry.BlinkEnd colour) inside fits mode saves =
-    let e : Entry = Entry.BlinkEnd colour in
-    inr (opcode_draws saved s e 0x3F Opcode.Blink [] 0 (refl, refl, tt, omega arith) no_bytes (omega arith) (λ rest. tt) (rw (no_operands 7) refl))
+    inr (opcode_draws saved s (Entry.BlinkEnd colour) 0x3F Opcode.Blink [] 0 (refl, refl, tt, omega arith) no_bytes (omega arith) (λ rest. tt) (rw (no_operands 7) refl))
 kind form saved s (Entry.BlinkMark on colour) inside fits mode saves =
     inr (control_draws saved s (Entry.BlinkMark on colour) 0x1B ((if on then 0x4E else 0x5E) ∷ []) (Code.BlinkMark on) (omega arith) tt tt (λ gl. spells.control1 (mark_row on)) refl)
 kind form saved s (Entry.Wait word) inside fits mode saves =
-    let e : Entry = Entry.Wait word in
-    inr (opcode_draws saved s e 0x3D Opcode.Wait (word_byte word ∷ []) 1 (refl, refl, tt, omega arith) (word_bytes word [] 0 inside no_bytes) (omega arith) (λ rest. tt)
+    inr (opcode_draws saved s (Entry.Wait word) 0x3D Opcode.Wait (word_byte word ∷ []) 1 (refl, refl, tt, omega arith) (word_bytes word [] 0 inside no_bytes) (omega arith) (λ rest. tt)
     (rw (word_of word) refl))
 kind form saved s Entry.Bell inside fits mode saves = inr (control_draws saved s Entry.Bell 0x07 [] Code.Bell (omega arith) tt tt (λ gl. spells.control0 refl (λ is. cc)) refl)
 kind form saved s (Entry.Cursor which) inside fits mode saves =
     inr (control_draws saved s (Entry.Cursor which) 0x1B (cursor_byte which ∷ []) (Code.Cursor which) (omega arith) tt tt (λ gl. spells.control1 (cursor_row which)) refl)
 kind form saved s (Entry.Field Area.Whole pen) inside fits mode saves =
-    let e : Entry = Entry.Field Area.Whole pen in
-    inr (opcode_draws saved s e 0x38 Opcode.Field [] 0 (refl, refl, tt, omega arith) no_bytes (omega arith) (λ rest. tt) (rw no_moves refl))
+    inr (opcode_draws saved s (Entry.Field Area.Whole pen) 0x38 Opcode.Field [] 0 (refl, refl, tt, omega arith) no_bytes (omega arith) (λ rest. tt) (rw no_moves refl))
 kind form saved s (Entry.Field (Area.Part p q) pen) inside fits mode saves =
-    let e : Entry = Entry.Field (Area.Part p q) pen in
     let corner : IsInSquare p = inside.0.0 in
     let all : All IsInSquare (q ∷ []) = All-cons IsInSquare q [] inside.0.1 (All-nil IsInSquare) in
-    inr (opcode_draws saved s e 0x38 Opcode.Field (shape_bytes (p ∷ q ∷ [])) 16 (refl, refl, tt, omega arith) (shape_operands p (q ∷ []) corner all) (omega arith) (λ rest. tt)
+    inr (opcode_draws saved s (Entry.Field (Area.Part p q) pen) 0x38 Opcode.Field (shape_bytes (p ∷ q ∷ [])) 16 (refl, refl, tt, omega arith) (shape_operands p (q ∷ []) corner all) (omega arith) (λ rest. tt)
     (rw (rules.corners_read p q corner inside.0.1, point_there p corner, (displacements_lead_there p q corner inside.0.1).1) refl))
 kind form saved s (Entry.Reset first second pen) inside fits mode saves = inr (reset_draws saved s first second pen inside.0 inside.1)
 kind form saved s (Entry.Clear pen) inside fits mode saves =
     inr (control_draws saved s (Entry.Clear pen) 0x0C [] Code.Clear (omega arith) tt tt (λ gl. spells.control0 refl (λ is. cc)) refl)
 kind form saved s (Entry.GlyphStart byte) inside fits mode saves =
-    let d : RuleResult = opens saved s (Entry.GlyphStart byte) in
-    inr (next (by_control 0x1B (0x43 ∷ byte ∷ []) (Code.DefGlyph byte) d (omega arith) tt tt (λ gl. spells.def_drcs (graphic byte fits.made)) (rw fits.comes refl)) nothing)
+    inr (next (by_control 0x1B (0x43 ∷ byte ∷ []) (Code.DefGlyph byte) (opens saved s (Entry.GlyphStart byte)) (omega arith) tt tt (λ gl. spells.def_drcs (graphic byte fits.made)) (rw fits.comes refl)) nothing)
 kind form saved s (Entry.MaskStart mask) inside fits mode saves =
-    let d : RuleResult = opens saved s (Entry.MaskStart mask) in
-    inr (next (by_control 0x1B (0x44 ∷ mask_byte mask ∷ []) (Code.DefMask mask) d (omega arith) tt tt (λ gl. spells.def_texture (mask_row mask)) (rw fits.comes refl)) nothing)
+    inr (next (by_control 0x1B (0x44 ∷ mask_byte mask ∷ []) (Code.DefMask mask) (opens saved s (Entry.MaskStart mask)) (omega arith) tt tt (λ gl. spells.def_texture (mask_row mask)) (rw fits.comes refl)) nothing)
 kind form saved s Entry.DefEnd inside fits mode saves = inr (end_draws saved s s.definition refl fits.comes saves)

@@ -6,26 +6,19 @@ pub word_of : (word : ℕ) → word_byte word - 64 ≡ word
 word_of word = omega arith
 
 first_operand : (k : ℕ) (bytes rest : List ℕ) → 1 ≤ k → length bytes ≡ k → operands k (words_of (bytes ++ rest)) ≡ words_of bytes ∷ operands k (words_of rest)
-first_operand k bytes rest some size =
-    ap (operands k) (map-append (λ (b : ℕ). b - 64) bytes rest)
-    ∙ whole_operand_first k (words_of bytes) (words_of rest) some (length-map bytes (λ (b : ℕ). b - 64) ∙ size)
+first_operand k bytes rest some size = grind (arith, operands, map-append, whole_operand_first, length-map)
 
 -- multi-value operands
 
 pub move_first : (m : Displacement) (rest : List ℕ) → IsInRange m → moves 8 (words_of (move_bytes m ++ rest)) ≡ m ∷ moves 8 (words_of rest)
-move_first m rest inside =
-    let spelled = moves_spell_once m inside in
-    ap (map multi_of) (first_operand 8 (move_bytes m) rest (omega arith) spelled.size_is)
-    ∙ ap (λ (x : Displacement). x ∷ moves 8 (words_of rest)) spelled.read_back
+move_first m rest inside = grind (arith, moves_spell_once, first_operand)
 
 -- a point is read as its displacement from the origin
 abbrev pub from_origin : Coordinates → Displacement
 from_origin p = multi_of (words_of (point_bytes p))
 
 pub point_first : (p : Coordinates) (rest : List ℕ) → IsInSquare p → moves 8 (words_of (point_bytes p ++ rest)) ≡ from_origin p ∷ moves 8 (words_of rest)
-point_first p rest inside =
-    let spelled = points_spell_once p inside in
-    ap (map multi_of) (first_operand 8 (point_bytes p) rest (omega arith) spelled.size_is)
+point_first p rest inside = grind (arith, points_spell_once, first_operand)
 
 pub point_there : (p : Coordinates) → IsInSquare p → point_at (from_origin p) ≡ Some p
 point_there p inside = let spelled = points_spell_once p inside in spelled.read_back
@@ -55,10 +48,7 @@ colour_there grb inside = let spelled = colours_spell_once grb inside in spelled
 -- single-value operands
 
 pub address_first : (a : ℕ) (rest : List ℕ) → a < 16777216 → addresses 4 (words_of (addr_bytes a ++ rest)) ≡ a ∷ addresses 4 (words_of rest)
-address_first a rest inside =
-    let spelled = addresses_spell_once a inside in
-    ap (map single_of) (first_operand 4 (addr_bytes a) rest (omega arith) spelled.size_is)
-    ∙ ap (λ (x : ℕ). x ∷ addresses 4 (words_of rest)) spelled.read_back
+address_first a rest inside = grind (arith, addresses_spell_once, first_operand)
 
 pub no_addresses : addresses 4 (words_of []) ≡ []
 no_addresses = ap (map single_of) (no_operands 4)
@@ -69,8 +59,7 @@ address_alone a inside =
     ∙ (address_first a [] inside ∙ ap (λ (os : List ℕ). a ∷ os) no_addresses)
 
 pub address_pair : (a b : ℕ) → a < 16777216 → b < 16777216 → addresses 4 (words_of (addr_bytes a ++ addr_bytes b)) ≡ a ∷ b ∷ []
-address_pair a b first second =
-    address_first a (addr_bytes b) first ∙ ap (λ (os : List ℕ). a ∷ os) (address_alone b second)
+address_pair a b first second = grind (arith, address_first, address_alone)
 
 -- the bytes are operand bytes, size of them
 pub record AreOperands (bytes : List ℕ) (size : ℕ) : Type 0 where
@@ -81,9 +70,7 @@ pub no_bytes : AreOperands [] 0
 no_bytes = record { size_is = refl; carriers = All-nil IsOperandByte }
 
 pub word_bytes : (word : ℕ) (bytes : List ℕ) (size : ℕ) → IsWord word → AreOperands bytes size → AreOperands (word_byte word ∷ bytes) (suc size)
-word_bytes word bytes size inside others =
-    let carrier : IsOperandByte (word_byte word) = (omega arith, omega (arith, inside)) in
-    record { size_is = ap suc others.size_is; carriers = All-cons IsOperandByte (word_byte word) bytes carrier others.carriers }
+word_bytes word bytes size inside others = grind (arith, All-cons)
 
 pub both_bytes : (xs ys : List ℕ) (m n : ℕ) → AreOperands xs m → AreOperands ys n → AreOperands (xs ++ ys) (m + n)
 both_bytes xs ys m n first second = record {

@@ -1,6 +1,6 @@
 -- The operand lengths that a definition saved, along canonical text.
 
-use Rattle.nap_canon.proofs.Common.{Entry, List, None, OpenDefinition, OperandLengths, Option, Some, State, [], after, refl, text_lengths, walk, ⊤, ◌∷◌, ◌≡◌}
+use Rattle.nap_canon.proofs.Common.{Entry, List, None, OpenDefinition, OperandLengths, Option, Some, State, [], after, arith, text_lengths, walk, ⊤, ◌∷◌, ◌≡◌}
 
 -- the saved operand lengths after an entry
 abbrev pub saved_after : OperandLengths → Entry → OperandLengths
@@ -19,10 +19,7 @@ SavesLengths saved None = ⊤
 SavesLengths saved (Some opened) = saved ≡ text_lengths
 
 pub saves_after : (saved : OperandLengths) (s : State) (e : Entry) → SavesLengths saved s.definition → SavesLengths (saved_after saved e) (after s e).definition
-saves_after saved s (Entry.GlyphStart code) h = refl
-saves_after saved s (Entry.MaskStart mask) h = refl
-saves_after saved s Entry.DefEnd h = tt
-saves_after saved s _ h = h
+saves_after saved s e h = grind arith
 
 pub saves_along : (saved : OperandLengths) (s : State) (es : List Entry) → SavesLengths saved s.definition →
     SavesLengths (saved_along saved es) (walk s es).definition

@@ -1,7 +1,6 @@
 -- Opcodes whose runs can be joined: they draw points, lines and rectangles.
 
-use Rattle.nap_canon.proofs.Common.{All, All-cons, All-nil, Bool, CanJoin, Colour, Coordinates, Displacement, Entry, Ink, IsInSquare, List, MayFollowCode, Ok, Opcode, OperandLengths, Pen, RuleResult, State, [], absolute_spans, after, ap, arith, displacements_lead_there, false, if◌then◌else◌, left_out_opcode, opcode, opcode_rows, point_bytes, points_at, polyline_spans, refl, relative_spans, row_of, rule, shape_bytes, sym, true, walk, words_of, ℕ, ◌*◌, ◌++◌, ◌∙◌, ◌∷◌, ◌≡◌, ◌≤◌}
-use Rattle.nap_codes.specs.declared.code.Code.{Code}
+use Rattle.nap_canon.proofs.Common.{All, All-cons, All-nil, Bool, CanJoin, Code, Colour, Coordinates, Displacement, Entry, Ink, IsInSquare, List, MayFollowCode, Ok, Opcode, OperandLengths, Pen, RuleResult, State, [], absolute_spans, after, arith, displacements_lead_there, false, if◌then◌else◌, left_out_opcode, opcode, opcode_rows, point_bytes, points_at, polyline_spans, refl, relative_spans, row_of, rule, shape_bytes, true, walk, words_of, ℕ, ◌*◌, ◌++◌, ◌∷◌, ◌≡◌, ◌≤◌}
 use Rattle.nap_canon.proofs.spelling.CommandLemmas.{work_at}
 use Rattle.nap_canon.proofs.reading.ConveyLemmas.{by_opcode, nothing, next}
 use Rattle.nap_canon.proofs.spelling.EntryRules as rules
@@ -26,17 +25,7 @@ pub record Strokes (saved : OperandLengths) (s : State) (e : Entry) (byte : ℕ)
 strokes : (saved : OperandLengths) (s : State) (e : Entry) (byte : ℕ) (operands : List ℕ) (op : Opcode) (groups : ℕ) → saved_after saved e ≡ saved → CanJoin op → IsOpcode byte op →
     groups ≤ 2 → AreOperands operands (groups * 8) → rule (work_with_attributes saved s e) op (words_of operands) ≡ Ok (entry_drawn saved s e) → Strokes saved s e byte operands
 unfolding walk
-strokes saved s e byte operands op groups same joins is few are by =
-    let to : OperandLengths → State → RuleResult = λ kept t. record { entries = e ∷ []; work = work_at kept t; clears = false } in
-    record {
-      op = op;
-      joins = joins;
-      is = is;
-      groups = groups;
-      few = few;
-      are = are;
-      draws = by ∙ ap (λ (t : State). Ok (to saved t)) (after_holding s e) ∙ ap (λ (kept : OperandLengths). Ok (to kept (after s e))) (sym same);
-    }
+strokes saved s e byte operands op groups same joins is few are by = grind (arith, after_holding)
 
 pub point_strokes : (saved : OperandLengths) (s : State) (at : Coordinates) (pel : Displacement) (colour : Colour) → IsInSquare at →
     Strokes saved s (Entry.Point at pel colour) 0x26 (point_bytes at)
@@ -81,9 +70,7 @@ rect_strokes saved s filled from to ink first second = by filled
 
 -- nothing has to come after such an opcode
 pub joining_comes : (op : Opcode) → CanJoin op → (rest : List Code) → MayFollowCode (Code.Op op) rest
-joining_comes Opcode.Domain joins rest = absurd joins
-joining_comes Opcode.Reset joins rest = absurd joins
-joining_comes _ joins rest = tt
+joining_comes op h rest = grind arith
 
 -- alone, as in form 1, it draws the entry
 pub stroke_draws : (saved : OperandLengths) (s : State) (e : Entry) (byte : ℕ) (operands : List ℕ) → Strokes saved s e byte operands → Draws saved s e (opcode byte operands ∷ [])

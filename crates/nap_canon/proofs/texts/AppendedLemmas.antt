@@ -4,9 +4,7 @@ use Rattle.nap_canon.proofs.Common.{List, [], ap, append_assoc, arith, drop, dro
 
 -- nothing was written
 pub appended_none : (buffer : List ℕ) (at : ℕ) → buffer ≡ with_bytes_at buffer at []
-appended_none buffer at =
-    let same : at ≡ at + 0 = omega arith in
-    sym (take-append-drop at buffer) ∙ ap (λ (k : ℕ). take at buffer ++ drop k buffer) same
+appended_none buffer at = grind (arith, take-append-drop)
 
 -- more bytes, right after
 pub appended_after : (buffer xs ys : List ℕ) (at end : ℕ) → at + length xs ≡ end → end ≤ length buffer → with_bytes_at (with_bytes_at buffer at xs) end ys ≡ with_bytes_at buffer at (xs ++ ys)
@@ -31,8 +29,4 @@ appended_after buffer xs ys at end size within =
 
 -- bytes written at the end of those so far come after them
 pub appended_ends : (buffer made xs : List ℕ) (at n : ℕ) → at ≤ length buffer → made ≡ with_bytes_at buffer at xs → n ≡ at + length xs → take n made ≡ take at buffer ++ xs
-appended_ends buffer made xs at n within is size =
-    let prefix : List ℕ = take at buffer in
-    let rest : List ℕ = drop (at + length xs) buffer in
-    ap (take n) (is ∙ sym (append_assoc prefix xs rest))
-    ∙ take_at (prefix ++ xs) rest n (omega (arith, length-append prefix xs, length-take-le at buffer within, size))
+appended_ends buffer made xs at n within is size = grind (arith, length, append_assoc, take_at, length-append, length-take-le)

@@ -1,7 +1,6 @@
 -- The places where `canon` finds that a list isn't legal.
 
-use Rattle.nap_canon.proofs.Common.{CanonFault, Entry, Err, Global, IsErrOf, IsIllegalAt, List, Ok, Result, Vec, ap, ℕ, ◌↔◌, ◌≡◌}
-use Rattle.nap_canon.specs.declared.text.CanonFault.TheVariants.{Illegal}
+use Rattle.nap_canon.proofs.Common.{CanonFault, Entry, Err, Global, Illegal, IsErrOf, IsIllegalAt, List, Ok, Result, Vec, ap, ℕ, ◌↔◌, ◌≡◌}
 
 abbrev Answer : Type 0
 Answer = Result (Vec ℕ Global) CanonFault

@@ -1,7 +1,6 @@
 -- Texts of a few entries, computed.
 
-use Rattle.nap_canon.proofs.Common.{CharSet, CharSize, Colour, Coordinates, Entry, Hand, Ink, List, Origin, Pen, Size, [], addr_bytes, colour_prelude, digits_of, displacement_bytes, displacement_to, false, grb_bytes, header, joins_open_run, move_bytes, pel_prelude, pen_prelude, pieces, pieces_bytes, point_bytes, pos, prelude, refl, start_drawing, start_text, start_texture, suc, text, text1, text_prelude, texture_prelude, true, words_of_pairs, words_of_triples, zero, ℕ, ◌++◌, ◌∷◌, ◌≡◌}
-use Rattle.nap_canon.specs.declared.text_end.TextEnd.TheVariants.{InRun}
+use Rattle.nap_canon.proofs.Common.{CharSet, CharSize, Colour, Coordinates, Entry, Hand, InRun, Ink, List, Origin, Pen, Size, [], addr_bytes, colour_prelude, digits_of, displacement_bytes, displacement_to, false, grb_bytes, header, joins_open_run, move_bytes, pel_prelude, pen_prelude, pieces, pieces_bytes, point_bytes, pos, prelude, refl, start_drawing, start_text, start_texture, suc, text, text1, text_prelude, texture_prelude, true, words_of_pairs, words_of_triples, zero, ℕ, ◌++◌, ◌∷◌, ◌≡◌}
 
 -- n words of zero
 unfoldable zeros : ℕ → List ℕ

@@ -1,23 +1,13 @@
 -- The bytes that a writer sends, part by part.
 
-use Rattle.nap_canon.proofs.Common.{Bool, Coordinates, Displacement, Err, List, Ok, OnOk, Result, TextEnd, [], ap, append_assoc, arith, digits_of, displacement_bytes, displacement_to, drop, drop-cons, false, get_or, gl_of, last_point, length, length-append, move_bytes, opcode, piece_bytes, point_bytes, refl, shape_bytes, shift_to_opcodes, subst, suc, sym, true, words_of_pairs, ℕ, ◌*◌, ◌++◌, ◌+◌, ◌<◌, ◌∙◌, ◌∷◌, ◌≡◌}
+use Rattle.nap_canon.proofs.Common.{Bool, Coordinates, Displacement, List, OnOk, Result, TextEnd, [], ap, append_assoc, arith, digits_of, displacement_bytes, displacement_to, drop, drop-cons, false, get_or, gl_of, last_point, length, length-append, move_bytes, opcode, piece_bytes, point_bytes, refl, shape_bytes, shift_to_opcodes, subst, sym, true, words_of_pairs, ℕ, ◌*◌, ◌++◌, ◌+◌, ◌<◌, ◌∙◌, ◌∷◌, ◌≡◌}
 
 -- one displacement more of a shape
 pub displacements_more : (now next piece whole : List ℕ) (from to : Coordinates) (others : List Coordinates) (i : ℕ) → i < length others → to ≡ get_or others i to →
     next ≡ now ++ piece → piece ≡ move_bytes (displacement_to from to) → now ++ displacement_bytes from (drop i others) ≡ whole →
     next ++ displacement_bytes to (drop (i + 1) others) ≡ whole
 unfolding displacement_bytes
-displacements_more now next piece whole from to others i within is step spelled so_far =
-    let bytes : List ℕ = move_bytes (displacement_to from to) in
-    let one : suc i ≡ i + 1 = omega arith in
-    let left : drop i others ≡ to ∷ drop (i + 1) others =
-    drop-cons others i to within
-    ∙ ap (λ (q : Coordinates). q ∷ drop (suc i) others) (sym is)
-    ∙ ap (λ (k : ℕ). to ∷ drop k others) one in
-    ap (λ (bs : List ℕ). bs ++ displacement_bytes to (drop (i + 1) others)) (step ∙ ap (λ (bs : List ℕ). now ++ bs) spelled)
-    ∙ append_assoc now bytes (displacement_bytes to (drop (i + 1) others))
-    ∙ ap (λ (qs : List Coordinates). now ++ displacement_bytes from qs) (sym left)
-    ∙ so_far
+displacements_more now next piece whole from to others i within is step spelled so_far = grind (arith, drop-cons, append_assoc)
 
 pub move_size : (m : Displacement) → length (move_bytes m) ≡ 8
 unfolding move_bytes words_of_pairs digits_of
@@ -34,21 +24,12 @@ displacements_size from (p ∷ ps) =
 displacements_parts : (from : Coordinates) (ps qs : List Coordinates) → displacement_bytes from (ps ++ qs) ≡ displacement_bytes from ps ++ displacement_bytes (last_point from ps) qs
 unfolding displacement_bytes last_point
 displacements_parts from [] qs = refl
-displacements_parts from (p ∷ ps) qs =
-    let step : List ℕ = move_bytes (displacement_to from p) in
-    ap (λ (bs : List ℕ). step ++ bs) (displacements_parts p ps qs)
-    ∙ sym (append_assoc step (displacement_bytes p ps) (displacement_bytes (last_point p ps) qs))
+displacements_parts from (p ∷ ps) qs = grind (arith, append_assoc, (displacements_parts p ps qs))
 
 -- one part more of them
 pub displacements_part : (now piece whole : List ℕ) (from to : Coordinates) (left part rest : List Coordinates) → left ≡ part ++ rest → piece ≡ displacement_bytes from part → to ≡ last_point from part →
     now ++ displacement_bytes from left ≡ whole → (now ++ piece) ++ displacement_bytes to rest ≡ whole
-displacements_part now piece whole from to left part rest parts spelled last so_far =
-    ap (λ (bs : List ℕ). (now ++ bs) ++ displacement_bytes to rest) spelled
-    ∙ ap (λ (p : Coordinates). (now ++ displacement_bytes from part) ++ displacement_bytes p rest) last
-    ∙ append_assoc now (displacement_bytes from part) (displacement_bytes (last_point from part) rest)
-    ∙ ap (λ (bs : List ℕ). now ++ bs) (sym (displacements_parts from part rest))
-    ∙ ap (λ (ps : List Coordinates). now ++ displacement_bytes from ps) (sym parts)
-    ∙ so_far
+displacements_part now piece whole from to left part rest parts spelled last so_far = grind (arith, append_assoc, displacements_parts)
 
 -- the pending text, then a shape: its opcode with the first point and some displacements, and those to the other points
 pub shape_joined : (prefix : List ℕ) (text_end : TextEnd) (code : ℕ) (first last : Coordinates) (near far others : List Coordinates) (bytes : List ℕ) →
@@ -62,14 +43,11 @@ shape_joined prefix text_end code first last near far others bytes begun parts e
     head = shift_to_opcodes (gl_of text_end) ++ code ∷ point_bytes first
 
     whole : (ps : List Coordinates) → (prefix ++ head) ++ displacement_bytes first ps ≡ prefix ++ piece_bytes text_end (opcode code (shape_bytes (first ∷ ps)))
-    whole ps =
-        append_assoc prefix head (displacement_bytes first ps)
-        ∙ ap (λ (bs : List ℕ). prefix ++ bs) (append_assoc (shift_to_opcodes (gl_of text_end)) (code ∷ point_bytes first) (displacement_bytes first ps))
+    whole ps = grind (arith, append_assoc, head)
 
 -- what holds for any answer
 pub on_ok_from : {T E P : Type 0} (r : Result T E) → P → OnOk r P
-on_ok_from (Ok _) p = p
-on_ok_from (Err _) p = tt
+on_ok_from r h = grind arith
 
 -- what a writer sends, in parts
 

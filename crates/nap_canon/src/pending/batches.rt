@@ -49,22 +49,45 @@ impl Pending {
     {
         match batch {
             Batch::Points { drawing, .. } => {
-                self.append_other_point_prelude(old, drawing.pel, drawing.colour);
+                self.append_other_point_prelude(old, drawing.pel, &drawing.colour);
             }
-            Batch::Lines { drawing, .. } => self.append_other_ink_prelude(old, &drawing.ink()),
+            Batch::Lines { drawing, .. } => {
+                self.append_other_ink_prelude(old, drawing.pel, &drawing.colour, drawing.texture);
+            }
             Batch::Text { pen, drawing, .. } => self.append_text_prelude(old, *pen, drawing),
         }
     }
 
-    /// Appends the first entry of a batch, with its prelude.
-    #[inline(always)]
-    pub(crate) fn append_start(&mut self, form: Form, old: &Drawing, batch: &Batch)
+    /// Appends the first entry of a batch, with its prelude, as `append_start` does.
+    #[inline(never)]
+    fn append_other_start(&mut self, form: Form, old: &Drawing, batch: &Batch)
         requires some { 0 < length (batch_entries batch.now) }
         requires space { length self.old.bytes + 180 ≤ buffer_limit }
         ensures { (s : State) → s.drawing ≡ old.now → AppendsNext form s (batch_entries batch.now) self.old self.new }
     {
         self.append_batch_prelude(old, batch);
         self.append_spelling_at(form, old, batch, 0);
+    }
+
+    /// Appends the first entry of a batch, with its prelude. Only the code for a text is inlined.
+    #[inline(always)]
+    pub(crate) fn append_start(&mut self, form: Form, old: &Drawing, batch: &Batch)
+        requires some { 0 < length (batch_entries batch.now) }
+        requires space { length self.old.bytes + 180 ≤ buffer_limit }
+        ensures { (s : State) → s.drawing ≡ old.now → AppendsNext form s (batch_entries batch.now) self.old self.new }
+    {
+        match batch {
+            Batch::Text {
+                set,
+                codes,
+                pen,
+                drawing,
+            } => {
+                self.append_text_prelude(old, *pen, drawing);
+                self.append_text_byte(*set, item(codes, 0));
+            }
+            _ => self.append_other_start(form, old, batch),
+        }
     }
 
     /// Appends the operands of points, which join the run of this opcode or open one.

@@ -1,20 +1,31 @@
 //! The prelude of an entry, which makes its attributes current.
-ghost use Rattle.std.specs.Prelude.{◌≡◌, ◌↔◌, ◌≤◌, ◌+◌, [], length, Some, IsTrue};
+ghost use Rattle.std.specs.Prelude.{◌≡◌, ◌↔◌, ◌≤◌, ◌+◌, [], ◌∷◌, length, Some, IsTrue};
 ghost use Rattle.nap_canon.specs.Names.{AreCurrent, addr_bytes, attributes, grb_bytes, hand_attributes, ink_attributes, ink_of, point_attributes};
-ghost use Rattle.nap_canon.specs.Preludes.{option_commands, colour_prelude, text_prelude, prelude};
-ghost use Rattle.nap_canon.specs.Spelling.{size_byte, flag_byte, opcode, command_piece};
+ghost use Rattle.nap_canon.specs.Commands.{Command};
+ghost use Rattle.nap_canon.specs.Preludes.{unless, base_commands, colour_commands, given_size_commands, named_size_commands, flag_commands, mask_commands, pen_prelude, pel_prelude, colour_prelude, texture_prelude, text_prelude, prelude};
+ghost use Rattle.nap_canon.specs.Equality.{same_base};
+ghost use Rattle.nap_canon.specs.Spelling.{size_byte, flag_byte, opcode};
 ghost use Rattle.nap_canon.specs.Writing.{AppendsPiece, AppendsCommands};
 ghost use Rattle.nap_canon.specs.Buffers.{piece_limit, buffer_limit};
 
-use crate::command::{
-    Command, Flag, colour_prelude, flag_prelude, given_size_prelude, is_colour, named_size_prelude,
-    pel_prelude, pen_prelude, texture_prelude,
-};
-use crate::current::{hand_is_current, ink_is_current, point_is_current};
+use crate::current::{hand_is_current, ink_is_current, is_colour, point_is_current};
 use crate::pending::{LENGTHS, Pending, opcodes, word_byte};
 use nap_codes::Size;
-use nap_list::{Colour, Drawing, Entry, Hand, Ink, TextLook};
-use nap_values::{Addr, Grb, Move, put_addr, put_grb, put_move, put_point};
+use nap_list::{Base, CharSize, Colour, Drawing, Entry, Hand, Ink, Pen, TextLook, Texture};
+use nap_values::{Addr, Grb, Move, Point, Word, put_addr, put_grb, put_move, put_point};
+
+/// A flag of the text attributes, set by controls of the C1 set.
+#[derive(Clone, Copy, Drop)]
+pub(crate) enum Flag {
+    /// REVERSE VIDEO and NORMAL VIDEO.
+    Reverse,
+    /// UNDERLINE START and UNDERLINE STOP.
+    Underline,
+    /// WORD WRAP ON and WORD WRAP OFF.
+    Wrap,
+    /// SCROLL ON and SCROLL OFF.
+    Scroll,
+}
 
 /// Returns the control of a named size.
 fn size_byte(size: Size) -> u8
@@ -33,16 +44,13 @@ fn size_byte(size: Size) -> u8
 fn flag_byte(flag: Flag, on: bool) -> u8
     ensures { result ≡ flag_byte flag on }
 {
-    match (flag, on) {
-        (Flag::Reverse, true) => 0x48,
-        (Flag::Reverse, false) => 0x49,
-        (Flag::Underline, true) => 0x59,
-        (Flag::Underline, false) => 0x5A,
-        (Flag::Wrap, true) => 0x55,
-        (Flag::Wrap, false) => 0x56,
-        (Flag::Scroll, true) => 0x57,
-        (Flag::Scroll, false) => 0x58,
-    }
+    let byte = match flag {
+        Flag::Reverse => 0x48,
+        Flag::Underline => 0x59,
+        Flag::Wrap => 0x55,
+        Flag::Scroll => 0x57,
+    };
+    if on { byte } else { byte + 1 }
 }
 
 impl Pending {
@@ -66,98 +74,178 @@ impl Pending {
         self.append_opcode_and_operands(opcodes::SELECT_COLOR, &[], &put_addr(addr)[..4]);
     }
 
-    /// Appends a command.
+    /// Appends the prelude of a pen.
+    #[tactic(auto, unfolding(crate::specs::Text::pieces_bytes, crate::specs::Text::text_end_after, crate::specs::Preludes::pen_prelude))]
     #[inline(always)]
-    fn append_command(&mut self, command: Command)
+    pub(super) fn append_pen_prelude(&mut self, old: Pen, pen: Pen)
         requires space { length self.old.bytes + piece_limit ≤ buffer_limit }
-        ensures appends { AppendsPiece (command_piece command) self.old self.new }
+        ensures appends { AppendsCommands (pen_prelude old (Some pen)) self.old self.new }
         ensures most { length self.new.bytes ≤ length self.old.bytes + piece_limit }
     {
-        match command {
-            Command::PointSet(point) => {
-                self.append_opcode_and_operands(opcodes::POINT_SET_ABS, &[], &put_point(point));
+        if old == pen {
+            return;
+        }
+        if let Pen::At(point) = pen {
+            self.append_opcode_and_operands(opcodes::POINT_SET_ABS, &[], &put_point(point));
+        }
+    }
+
+    /// Appends the prelude of a pel.
+    #[tactic(auto, unfolding(crate::specs::Text::pieces_bytes, crate::specs::Text::text_end_after, crate::specs::Preludes::pel_prelude))]
+    #[inline(always)]
+    fn append_pel_prelude(&mut self, old: Move, pel: Move)
+        requires space { length self.old.bytes + piece_limit ≤ buffer_limit }
+        ensures appends { AppendsCommands (pel_prelude old (Some pel)) self.old self.new }
+        ensures most { length self.new.bytes ≤ length self.old.bytes + piece_limit }
+    {
+        if old == pel {
+            return;
+        }
+        self.append_opcode_and_operands(opcodes::DOMAIN, &[LENGTHS], &put_move(pel));
+    }
+
+    /// Appends TEXTURE with its word, and with the size of the mask if it isn't the old one.
+    #[inline(always)]
+    fn append_mask(&mut self, word: Word, old: Option<Move>, mask: Option<Move>)
+        requires space { length self.old.bytes + piece_limit ≤ buffer_limit }
+        ensures appends { AppendsCommands (mask_commands word old mask) self.old self.new }
+        ensures most { length self.new.bytes ≤ length self.old.bytes + piece_limit }
+    {
+        let byte = word_byte(word);
+        match mask {
+            Some(mask) if old != Some(mask) => {
+                self.append_opcode_and_operands(opcodes::TEXTURE, &[byte], &put_move(mask));
             }
-            Command::Pel(pel) => self.append_opcode_and_operands(
-                opcodes::DOMAIN,
-                &[LENGTHS],
-                &put_move(pel),
-            ),
-            Command::SelectBase => self.append_opcode_and_operands(opcodes::SELECT_COLOR, &[], &[]),
-            Command::SelectFront(addr) => self.append_select_front(addr),
-            Command::SelectPair(front, back) => {
+            _ => self.append_opcode_and_operands(opcodes::TEXTURE, &[], &[byte]),
+        }
+    }
+
+    /// Appends the prelude of a texture.
+    #[tactic(auto, unfolding(crate::specs::Text::pieces_bytes, crate::specs::Text::text_end_after, crate::specs::Preludes::texture_prelude))]
+    #[inline(always)]
+    fn append_texture_prelude(&mut self, old: Texture, texture: Texture)
+        requires space { length self.old.bytes + piece_limit ≤ buffer_limit }
+        ensures appends { AppendsCommands (texture_prelude old (Some texture)) self.old self.new }
+        ensures most { length self.new.bytes ≤ length self.old.bytes + piece_limit }
+    {
+        if old == texture {
+            return;
+        }
+        self.append_mask(texture.word, old.mask, texture.mask);
+    }
+
+    /// Appends the selection of the colour of mode 0, unless the old colour is of that mode.
+    #[tactic(auto, unfolding(crate::specs::Text::pieces_bytes, crate::specs::Text::text_end_after))]
+    #[inline(always)]
+    fn append_select_base(&mut self, old: Colour)
+        requires space { length self.old.bytes + 2 ≤ buffer_limit }
+        ensures appends { AppendsCommands (base_commands old) self.old self.new }
+        ensures most { length self.new.bytes ≤ length self.old.bytes + 2 }
+    {
+        match old {
+            Colour::Own(_) | Colour::Direct(_) => {}
+            _ => self.append_opcode_and_operands(opcodes::SELECT_COLOR, &[], &[]),
+        }
+    }
+
+    /// Appends SET COLOR, unless this is the colour of mode 0.
+    #[tactic(auto, unfolding(crate::specs::Text::pieces_bytes, crate::specs::Text::text_end_after))]
+    #[inline(always)]
+    fn append_base(&mut self, base: Base, grb: Grb)
+        requires space { length self.old.bytes + 10 ≤ buffer_limit }
+        ensures appends { AppendsCommands (unless (same_base base (Base.Direct grb)) (Command.set_color grb ∷ [])) self.old self.new }
+        ensures most { length self.new.bytes ≤ length self.old.bytes + 10 }
+    {
+        if base == Base::Direct(grb) {
+            return;
+        }
+        self.append_set_color(grb);
+    }
+
+    /// Appends the commands that set a colour.
+    #[tactic(auto, unfolding(crate::specs::Text::pieces_bytes, crate::specs::Text::text_end_after))]
+    #[inline(never)]
+    fn append_colour(&mut self, old: &Drawing, colour: &Colour)
+        requires space { length self.old.bytes + 36 ≤ buffer_limit }
+        ensures appends { AppendsCommands (colour_commands old.now.base old.now.colour colour.now) self.old self.new }
+        ensures most { length self.new.bytes ≤ length self.old.bytes + 36 }
+    {
+        match *colour {
+            Colour::Own(_) => self.append_opcode_and_operands(opcodes::SELECT_COLOR, &[], &[]),
+            Colour::Direct(grb) => {
+                self.append_select_base(old.colour);
+                self.append_base(old.base, grb);
+            }
+            Colour::Front(addr) => self.append_select_front(addr),
+            Colour::Pair(front, back) => {
                 self.append_opcode_and_operands(
                     opcodes::SELECT_COLOR,
                     &put_addr(front),
                     &put_addr(back),
                 );
             }
-            Command::SetColor(grb) => self.append_set_color(grb),
-            Command::Texture(word) => self.append_opcode_and_operands(
-                opcodes::TEXTURE,
-                &[],
-                &[word_byte(word)],
-            ),
-            Command::TextureMask(word, mask) => {
-                self.append_opcode_and_operands(
-                    opcodes::TEXTURE,
-                    &[word_byte(word)],
-                    &put_move(mask),
-                );
-            }
-            Command::Text(first, second) => {
-                self.append_opcode_and_operands(
-                    opcodes::TEXT,
-                    &[],
-                    &[word_byte(first), word_byte(second)],
-                );
-            }
-            Command::TextSize(first, second, size) => self.append_opcode_and_operands(
-                opcodes::TEXT,
-                &[word_byte(first), word_byte(second)],
-                &put_move(size),
-            ),
-            Command::Named(size) => self.append_control(&[0x1B, size_byte(size)]),
-            Command::Flag(flag, on) => self.append_control(&[0x1B, flag_byte(flag, on)]),
+            Colour::ByReset(_) => {}
         }
-    }
-
-    /// Appends a command, if there is one.
-    #[tactic(auto, unfolding(crate::specs::Text::pieces_bytes, crate::specs::Text::text_end_after))]
-    #[inline(always)]
-    pub(super) fn append_command_if(&mut self, command: Option<Command>)
-        requires space { length self.old.bytes + piece_limit ≤ buffer_limit }
-        ensures appends { AppendsCommands (option_commands command) self.old self.new }
-        ensures most { length self.new.bytes ≤ length self.old.bytes + piece_limit }
-    {
-        if let Some(command) = command {
-            self.append_command(command);
-        }
-    }
-
-    /// Appends the prelude of a colour, which may not be current.
-    #[inline(never)]
-    fn append_other_colour_prelude(&mut self, old: &Drawing, colour: Colour)
-        requires space { length self.old.bytes + 36 ≤ buffer_limit }
-        ensures appends { AppendsCommands (colour_prelude old.now.base old.now.colour (Some colour)) self.old self.new }
-        ensures most { length self.new.bytes ≤ length self.old.bytes + 36 }
-    {
-        let (first, second) = colour_prelude(old.base, old.colour, colour);
-        self.append_command_if(first);
-        self.append_command_if(second);
     }
 
     /// Appends the prelude of a colour.
     #[tactic(auto, unfolding(crate::specs::Text::pieces_bytes, crate::specs::Text::text_end_after, crate::specs::Preludes::colour_prelude))]
     #[inline(always)]
-    pub(super) fn append_colour_prelude(&mut self, old: &Drawing, colour: Colour)
+    pub(super) fn append_colour_prelude(&mut self, old: &Drawing, colour: &Colour)
         requires space { length self.old.bytes + 36 ≤ buffer_limit }
-        ensures appends { AppendsCommands (colour_prelude old.now.base old.now.colour (Some colour)) self.old self.new }
+        ensures appends { AppendsCommands (colour_prelude old.now.base old.now.colour (Some colour.now)) self.old self.new }
         ensures most { length self.new.bytes ≤ length self.old.bytes + 36 }
     {
-        if is_colour(&old.colour, &colour) {
+        if is_colour(&old.colour, colour) {
             return;
         }
-        self.append_other_colour_prelude(old, colour);
+        self.append_colour(old, colour);
+    }
+
+    /// Appends the words of text and a given size, if they have to be set.
+    #[tactic(auto, unfolding(crate::specs::Text::pieces_bytes, crate::specs::Text::text_end_after))]
+    #[inline(always)]
+    fn append_given_size(&mut self, old: &TextLook, look: &TextLook)
+        requires space { length self.old.bytes + piece_limit ≤ buffer_limit }
+        ensures appends { AppendsCommands (given_size_commands old.now look.now look.now.size) self.old self.new }
+        ensures most { length self.new.bytes ≤ length self.old.bytes + piece_limit }
+    {
+        let words = [word_byte(look.first), word_byte(look.second)];
+        match look.size {
+            CharSize::Given(size) if old.size != look.size => {
+                self.append_opcode_and_operands(opcodes::TEXT, &words, &put_move(size));
+            }
+            _ if old.first == look.first && old.second == look.second => {}
+            _ => self.append_opcode_and_operands(opcodes::TEXT, &[], &words),
+        }
+    }
+
+    /// Appends the control of a named size, if it has to be set.
+    #[tactic(auto, unfolding(crate::specs::Text::pieces_bytes, crate::specs::Text::text_end_after))]
+    #[inline(always)]
+    fn append_named_size(&mut self, old: CharSize, size: CharSize)
+        requires space { length self.old.bytes + 2 ≤ buffer_limit }
+        ensures appends { AppendsCommands (named_size_commands old size) self.old self.new }
+        ensures most { length self.new.bytes ≤ length self.old.bytes + 2 }
+    {
+        match size {
+            CharSize::Named(name) if old != size => self.append_control(&[0x1B, size_byte(name)]),
+            _ => {}
+        }
+    }
+
+    /// Appends the control of a flag, if it has to be set.
+    #[tactic(auto, unfolding(crate::specs::Text::pieces_bytes, crate::specs::Text::text_end_after))]
+    #[inline(always)]
+    fn append_flag(&mut self, flag: Flag, old: bool, on: bool)
+        requires space { length self.old.bytes + 2 ≤ buffer_limit }
+        ensures appends { AppendsCommands (flag_commands flag old on) self.old self.new }
+        ensures most { length self.new.bytes ≤ length self.old.bytes + 2 }
+    {
+        if old == on {
+            return;
+        }
+        self.append_control(&[0x1B, flag_byte(flag, on)]);
     }
 
     /// Appends the prelude of text attributes, some of which aren't current.
@@ -167,12 +255,12 @@ impl Pending {
         ensures appends { AppendsCommands (text_prelude old.now (Some look.now)) self.old self.new }
         ensures most { length self.new.bytes ≤ length self.old.bytes + 108 }
     {
-        self.append_command_if(given_size_prelude(old, look));
-        self.append_command_if(named_size_prelude(old.size, look.size));
-        self.append_command_if(flag_prelude(Flag::Reverse, old.reverse, look.reverse));
-        self.append_command_if(flag_prelude(Flag::Underline, old.underline, look.underline));
-        self.append_command_if(flag_prelude(Flag::Wrap, old.wrap, look.wrap));
-        self.append_command_if(flag_prelude(Flag::Scroll, old.scroll, look.scroll));
+        self.append_given_size(old, look);
+        self.append_named_size(old.size, look.size);
+        self.append_flag(Flag::Reverse, old.reverse, look.reverse);
+        self.append_flag(Flag::Underline, old.underline, look.underline);
+        self.append_flag(Flag::Wrap, old.wrap, look.wrap);
+        self.append_flag(Flag::Scroll, old.scroll, look.scroll);
     }
 
     /// Appends the prelude of text attributes.
@@ -190,12 +278,12 @@ impl Pending {
 
     /// Appends the prelude of a pel and a colour, which may not be current.
     #[inline(always)]
-    pub(super) fn append_other_point_prelude(&mut self, old: &Drawing, pel: Move, colour: Colour)
+    pub(super) fn append_other_point_prelude(&mut self, old: &Drawing, pel: Move, colour: &Colour)
         requires { length self.old.bytes + 54 ≤ buffer_limit }
-        ensures appends { AppendsCommands (prelude old.now (point_attributes pel colour)) self.old self.new }
+        ensures appends { AppendsCommands (prelude old.now (point_attributes pel colour.now)) self.old self.new }
         ensures most { length self.new.bytes ≤ length self.old.bytes + 54 }
     {
-        self.append_command_if(pel_prelude(old.pel, pel));
+        self.append_pel_prelude(old.pel, pel);
         self.append_colour_prelude(old, colour);
     }
 
@@ -215,19 +303,25 @@ impl Pending {
         if point_is_current(old, *pel, *colour) {
             return true;
         }
-        self.append_other_point_prelude(old, *pel, *colour);
+        self.append_other_point_prelude(old, *pel, colour);
         false
     }
 
     /// Appends the prelude of attributes for lines and areas, some of which aren't current.
     #[inline(always)]
-    pub(super) fn append_other_ink_prelude(&mut self, old: &Drawing, ink: &Ink)
+    pub(super) fn append_other_ink_prelude(
+        &mut self,
+        old: &Drawing,
+        pel: Move,
+        colour: &Colour,
+        texture: Texture,
+    )
         requires { length self.old.bytes + 72 ≤ buffer_limit }
-        ensures appends { AppendsCommands (prelude old.now (ink_attributes ink.now)) self.old self.new }
+        ensures appends { AppendsCommands (prelude old.now (ink_attributes (record { pel = pel; colour = colour.now; texture = texture }))) self.old self.new }
         ensures most { length self.new.bytes ≤ length self.old.bytes + 72 }
     {
-        self.append_other_point_prelude(old, ink.pel, ink.colour);
-        self.append_command_if(texture_prelude(old.texture, ink.texture));
+        self.append_other_point_prelude(old, pel, colour);
+        self.append_texture_prelude(old.texture, texture);
     }
 
     /// Appends the prelude of attributes for lines and areas. Returns whether all are current, so that nothing is
@@ -242,7 +336,7 @@ impl Pending {
         if ink_is_current(old, ink) {
             return true;
         }
-        self.append_other_ink_prelude(old, ink);
+        self.append_other_ink_prelude(old, ink.pel, &ink.colour, ink.texture);
         false
     }
 
@@ -258,7 +352,7 @@ impl Pending {
         if ink_is_current(old, &drawing.ink()) {
             return true;
         }
-        self.append_other_ink_prelude(old, &drawing.ink());
+        self.append_other_ink_prelude(old, drawing.pel, &drawing.colour, drawing.texture);
         false
     }
 
@@ -285,8 +379,8 @@ impl Pending {
         ensures appends { AppendsCommands (prelude old.now (hand_attributes hand.now)) self.old self.new }
         ensures most { length self.new.bytes ≤ length self.old.bytes + 162 }
     {
-        self.append_command_if(pen_prelude(old.pen, hand.pen));
-        self.append_colour_prelude(old, hand.colour);
+        self.append_pen_prelude(old.pen, hand.pen);
+        self.append_colour_prelude(old, &hand.colour);
         self.append_look_prelude(&old.text, &hand.text);
     }
 
@@ -300,28 +394,25 @@ impl Pending {
     {
         match entry {
             Entry::Point { pel, colour, .. } => {
-                self.append_other_point_prelude(old, *pel, *colour);
+                self.append_other_point_prelude(old, *pel, colour);
             }
             Entry::Line { ink, .. }
             | Entry::Arc { ink, .. }
             | Entry::Rect { ink, .. }
-            | Entry::Poly { ink, .. } => self.append_other_ink_prelude(old, ink),
+            | Entry::Poly { ink, .. } => {
+                self.append_other_ink_prelude(old, ink.pel, &ink.colour, ink.texture);
+            }
             Entry::Char { hand, .. } | Entry::TextMove { hand, .. } | Entry::ToEol { hand } => {
                 self.append_other_hand_prelude(old, hand);
             }
             Entry::Blink { colour, .. }
             | Entry::BlinkEnd { colour }
-            | Entry::BlinkMark { colour, .. } => self.append_colour_prelude(old, *colour),
+            | Entry::BlinkMark { colour, .. } => self.append_colour_prelude(old, colour),
             Entry::Field { pen, .. } | Entry::Reset { pen, .. } | Entry::Clear { pen } => {
-                self.append_command_if(pen_prelude(old.pen, *pen));
+                self.append_pen_prelude(old.pen, *pen);
             }
-            Entry::Map { .. }
-            | Entry::Wait(_)
-            | Entry::Bell
-            | Entry::Cursor(_)
-            | Entry::GlyphStart(_)
-            | Entry::MaskStart(_)
-            | Entry::DefEnd => {}
+            Entry::Map { .. } | Entry::Wait(_) | Entry::Bell | Entry::Cursor(_) => {}
+            Entry::GlyphStart(_) | Entry::MaskStart(_) | Entry::DefEnd => {}
         }
     }
 }

@@ -6,7 +6,6 @@ ghost use Rattle.nap_canon.specs.Writing.{AppendsPieces, AppendsPiece, is_short,
 ghost use Rattle.nap_canon.specs.Buffers.{piece_limit, buffer_limit};
 ghost use Rattle.nap_canon.specs.Preludes.{prelude};
 
-use crate::command::pen_prelude;
 use crate::pending::{LENGTHS, Pending, opcodes, word_byte};
 use crate::text::Form;
 use nap_codes::{CharSet, CursorKind, Mask, TextStep, format_effector};
@@ -17,22 +16,13 @@ use nap_values::{Addr, Grb, Point, Word, put_addr, put_move, put_point};
 fn mask_byte(mask: Mask) -> u8
     ensures { result ≡ mask_byte mask }
 {
-    match mask {
-        Mask::A => 0x41,
-        Mask::B => 0x42,
-        Mask::C => 0x43,
-        Mask::D => 0x44,
-    }
+    0x41 + mask as u8
 }
 
 fn cursor_byte(kind: CursorKind) -> u8
     ensures { result ≡ cursor_byte kind }
 {
-    match kind {
-        CursorKind::Flash => 0x5B,
-        CursorKind::Steady => 0x5C,
-        CursorKind::Off => 0x5D,
-    }
+    0x5B + kind as u8
 }
 
 impl Pending {
@@ -42,7 +32,7 @@ impl Pending {
         requires { length self.old.bytes + 46 ≤ buffer_limit }
         ensures { AppendsPieces (map_pieces old.now addr grb) self.old self.new }
     {
-        self.append_colour_prelude(old, Colour::Front(addr));
+        self.append_colour_prelude(old, &Colour::Front(addr));
         self.append_set_color(grb);
     }
 
@@ -56,20 +46,6 @@ impl Pending {
             opcodes::BLINK,
             &put_addr(addr)[..4],
             &[word_byte(on), word_byte(off), word_byte(delay)],
-        );
-    }
-
-    /// Appends RESET with its words.
-    #[inline(always)]
-    fn append_reset_words(&mut self, first: Word, second: Word)
-        requires { length self.old.bytes + 4 ≤ buffer_limit }
-        ensures appends { AppendsPiece (opcode 0x20 (word_byte first ∷ word_byte second ∷ [])) self.old self.new }
-        ensures most { length self.new.bytes ≤ length self.old.bytes + 4 }
-    {
-        self.append_opcode_and_operands(
-            opcodes::RESET,
-            &[],
-            &[word_byte(first), word_byte(second)],
         );
     }
 
@@ -91,7 +67,8 @@ impl Pending {
         requires { length self.old.bytes + 7 ≤ buffer_limit }
         ensures { AppendsPieces (opcode 0x20 (word_byte first ∷ word_byte second ∷ []) ∷ domain_again first) self.old self.new }
     {
-        self.append_reset_words(first, second);
+        let words = [word_byte(first), word_byte(second)];
+        self.append_opcode_and_operands(opcodes::RESET, &[], &words);
         self.append_domain_again(first);
     }
 
@@ -235,8 +212,8 @@ impl Pending {
         ensures appends { AppendsCommands (prelude old.now (hand_attributes (record (hand_of drawing.now) { pen = pen }))) self.old self.new }
         ensures most { length self.new.bytes ≤ length self.old.bytes + 162 }
     {
-        self.append_command_if(pen_prelude(old.pen, pen));
-        self.append_colour_prelude(old, drawing.colour);
+        self.append_pen_prelude(old.pen, pen);
+        self.append_colour_prelude(old, &drawing.colour);
         self.append_look_prelude(&old.text, &drawing.text);
     }
 

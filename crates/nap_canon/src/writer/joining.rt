@@ -1,9 +1,7 @@
 //! Entries of a batch whose attributes are current. Several that join the last run or text, or open one, are one write.
-ghost use Rattle.std.specs.Prelude.{◌≡◌, ◌<◌, ◌≤◌, ◌+◌, ◌*◌, ◌⊎◌, [], length, drop, IsTrue, ◌↔◌};
-ghost use Rattle.nap_list.specs.Batches.{EachIsCurrent, FirstIsCurrent, batch_entries};
+ghost use Rattle.std.specs.Prelude.{◌≡◌, ◌<◌, ◌≤◌, ◌+◌, ◌*◌, ◌⊎◌, [], length, drop};
+ghost use Rattle.nap_list.specs.Batches.{EachIsCurrent, batch_entries};
 ghost use Rattle.nap_canon.specs.declared.pending.Pending.{Pending};
-ghost use Rattle.nap_canon.specs.declared.text_end.TextEnd.TheVariants.{NoRun, InRun};
-ghost use Rattle.nap_codes.specs.declared.code_set.GSet.TheVariants.{G0};
 ghost use Rattle.nap_canon.specs.Batches.{Joins, JoinsAfter, PointsJoin, TextJoins, entry_size, joined_bytes, text_end_after_joined, opening, points_bytes, run_opening};
 ghost use Rattle.nap_canon.specs.Text.{gl_of, run_after, shift_to_primary};
 ghost use Rattle.nap_canon.specs.Writing.{AppendsNext, PutsPrefix, RestIsCurrent, SendsPrefix, Stays, WritesWhole, put_count};
@@ -11,7 +9,7 @@ ghost use Rattle.nap_canon.specs.Buffers.{buffer_limit};
 
 use crate::byte_buffer::BUFFER_SIZE;
 use crate::byte_sink::ByteSink;
-use crate::current::{batch_begins_current, item, part};
+use crate::current::{item, part};
 use crate::pending::opcodes;
 use crate::text::Form;
 use crate::text_end::TextEnd;
@@ -27,14 +25,6 @@ const MAX_POINTS: usize = 126;
 const MAX_CODES: usize = 1_023;
 
 impl<T: ByteSink + Drop> Writer<T> {
-    /// Whether the attributes of a batch's first entry are current.
-    #[inline(always)]
-    pub(crate) fn first_is_current(&self, batch: &Batch) -> bool
-        ensures { IsTrue result ↔ FirstIsCurrent batch.now self.now.state.drawing }
-    {
-        batch_begins_current(self.state.drawing(), batch)
-    }
-
     /// Returns how many of the next `count` points make one write: those that join the run of this opcode, or that open
     /// one if none joins. Zero in form 1.
     #[inline]
@@ -75,7 +65,7 @@ impl<T: ByteSink + Drop> Writer<T> {
     /// Returns how many entries of a batch, from `first` on, make one write: they join the last run or text, or open
     /// one.
     #[inline(always)]
-    pub(crate) fn joining_count(&self, batch: &Batch, first: usize) -> usize
+    fn joining_count(&self, batch: &Batch, first: usize) -> usize
         requires some { first < length (batch_entries batch.now) }
         ensures few { result + first ≤ length (batch_entries batch.now) }
         ensures joins { 0 < result → Joins self.now.form self.now.pending.text_end self.now.state batch.now first result }
@@ -153,7 +143,7 @@ impl<T: ByteSink + Drop> Writer<T> {
     /// Puts the entry of a batch at an index, whose attributes are current, and those after it that make one write with
     /// it. Returns their number; the error has the number taken.
     #[inline(never)]
-    pub(crate) fn put_next(&mut self, batch: &Batch, index: usize) -> Result<usize, usize>
+    fn put_next(&mut self, batch: &Batch, index: usize) -> Result<usize, usize>
         requires some { index < length (batch_entries batch.now) }
         requires current { EachIsCurrent self.old.state (drop index (batch_entries batch.now)) }
         ensures { PutsPrefix T.sent (drop index (batch_entries batch.now)) self.old self.new result }
@@ -170,7 +160,7 @@ impl<T: ByteSink + Drop> Writer<T> {
     #[inline(never)]
     fn write_run(&mut self, opcode: u8, points: &[Point]) -> Result<(), usize>
         requires few { length points.now ≤ 126 }
-        ensures { WritesWhole T.sent (run_opening self.old.pending.text_end opcode (8 * length points.now)) 8 (points_bytes points.now) (InRun (run_after self.old.pending.text_end opcode (8 * length points.now))) self.old self.new result }
+        ensures { WritesWhole T.sent (run_opening self.old.pending.text_end opcode (8 * length points.now)) 8 (points_bytes points.now) (TextEnd.InRun (run_after self.old.pending.text_end opcode (8 * length points.now))) self.old self.new result }
     {
         let size = 8 * points.len();
         self.pending.bytes.clear();
@@ -185,7 +175,7 @@ impl<T: ByteSink + Drop> Writer<T> {
     /// Writes codes of primary characters that open a text. The error has the number taken.
     fn write_text_start(&mut self, codes: &[u8]) -> Result<(), usize>
         requires few { length codes.now ≤ 1023 }
-        ensures { WritesWhole T.sent (shift_to_primary (gl_of self.old.pending.text_end)) 1 codes.now (NoRun G0) self.old self.new result }
+        ensures { WritesWhole T.sent (shift_to_primary (gl_of self.old.pending.text_end)) 1 codes.now (TextEnd.NoRun GSet.G0) self.old self.new result }
     {
         self.pending.bytes.clear();
         self.pending.append_shift_in();
@@ -199,8 +189,8 @@ impl<T: ByteSink + Drop> Writer<T> {
     /// Writes codes of primary characters that join the text at the end or open one. The error has the number taken.
     #[inline(always)]
     fn write_text(&mut self, codes: &[u8]) -> Result<(), usize>
-        requires few { (self.old.pending.text_end ≡ NoRun G0) ⊎ (length codes.now ≤ 1023) }
-        ensures { WritesWhole T.sent (shift_to_primary (gl_of self.old.pending.text_end)) 1 codes.now (NoRun G0) self.old self.new result }
+        requires few { (self.old.pending.text_end ≡ TextEnd.NoRun GSet.G0) ⊎ (length codes.now ≤ 1023) }
+        ensures { WritesWhole T.sent (shift_to_primary (gl_of self.old.pending.text_end)) 1 codes.now (TextEnd.NoRun GSet.G0) self.old self.new result }
     {
         if self.pending.text_end == TextEnd::NoRun(GSet::G0) {
             return self.target.write_counted(codes);
@@ -229,21 +219,18 @@ impl<T: ByteSink + Drop> Writer<T> {
         }
     }
 
-    /// Puts `count` entries of a batch from `first`, which join the last run or text, or open one. Returns their
-    /// number; the error has the number taken.
+    /// Puts entries of a batch from `first`, whose attributes are current: as many as make one write, at least one.
+    /// Returns their number; the error has the number taken.
     #[inline(always)]
-    pub(crate) fn put_joined(
-        &mut self,
-        batch: &Batch,
-        first: usize,
-        count: usize,
-    ) -> Result<usize, usize>
-        requires some { 0 < count }
-        requires few { count + first ≤ length (batch_entries batch.now) }
+    pub(crate) fn put_more(&mut self, batch: &Batch, first: usize) -> Result<usize, usize>
+        requires some { first < length (batch_entries batch.now) }
         requires current { EachIsCurrent self.old.state (drop first (batch_entries batch.now)) }
-        requires joins { Joins self.old.form self.old.pending.text_end self.old.state batch.now first count }
         ensures { PutsPrefix T.sent (drop first (batch_entries batch.now)) self.old self.new result }
     {
+        let count = self.joining_count(batch, first);
+        if count == 0 {
+            return self.put_next(batch, first);
+        }
         match self.write_joined(batch, first, count) {
             Ok(()) => {
                 self.state.step_from(batch, first, count);
@@ -259,7 +246,7 @@ impl<T: ByteSink + Drop> Writer<T> {
 
 /// Returns how many entries were put, be it all or those up to a failure.
 #[inline(always)]
-fn put_count(put: Result<usize, usize>) -> usize
+pub(super) fn put_count(put: Result<usize, usize>) -> usize
     ensures { result ≡ put_count put }
 {
     match put {

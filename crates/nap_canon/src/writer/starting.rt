@@ -5,6 +5,7 @@ ghost use Rattle.nap_canon.specs.Writing.{PutsPrefix};
 
 use crate::byte_sink::ByteSink;
 use crate::writer::Writer;
+use crate::writer::joining::put_count;
 use nap_list::{Batch, WrittenState};
 
 /// Advances past the first `count` entries of a batch.
@@ -33,15 +34,8 @@ impl<T: ByteSink + Drop> Writer<T> {
         self.pending.bytes.clear();
         self.pending
             .append_start(self.form, self.state.drawing(), batch);
-        match self.write_with_more(batch, 0) {
-            Ok(count) => {
-                step_batch(&mut self.state, batch, count);
-                Ok(count)
-            }
-            Err(count) => {
-                step_batch(&mut self.state, batch, count);
-                Err(count)
-            }
-        }
+        let put = self.write_with_more(batch, 0);
+        step_batch(&mut self.state, batch, put_count(put));
+        put
     }
 }

@@ -1,19 +1,21 @@
 //! The answer to a request.
-ghost use Rattle.std.specs.Prelude.{◌≡◌, ◌++◌, [], IfOk, IfSome, IsSome, ◌≤◌, false, true, drop, length};
+ghost use Rattle.std.specs.Prelude.{◌≡◌, ◌++◌, ◌∷◌, [], IfOk, IfSome, IsSome, ◌≤◌, false, true, drop, length};
 ghost use Rattle.nap_command.specs.declared.command.Action.TheVariants.{Check};
 ghost use Rattle.nap_command.specs.Commands.{PrintsBy, count_line};
-ghost use Rattle.nap_command.specs.Answers.{AnswersLines, IsAnswer, ShowsText, answer_text, ended_line, page_command, refused_line, unmade_line};
+ghost use Rattle.nap_command.specs.Answers.{AnswersLines, IsAnswer, answer_text, ended_line, page_command};
+ghost use Rattle.nap_command.specs.Failures.{failure_text};
 ghost use Rattle.nap_command.specs.declared.batch.answer.TheConstants.{HEAD_SPACE};
 
-use crate::answer::{Printout, answer_stream, count_line, refusal_line};
+use crate::answer::{Printout, answer_stream, count_line, failure_line};
 use crate::batch::places::read_places;
 use crate::batch::request::Question;
 use crate::command::{Action, Command};
 use crate::execution::lines_failure;
+use crate::failure::Failure;
 use itoa::Buffer;
-use nap_canon::{PageText, page_text};
+use nap_canon::page_text;
 use nap_lines::LineSink;
-use nap_make::{MakeFault, page_of_lines};
+use nap_make::page_of_lines;
 use nap_reader::{Budget, Refusal, read_counted};
 use std::alloc::{AllocError, Global};
 use std::marker::Model;
@@ -129,19 +131,16 @@ fn check_answer(alloc: Global, budget: Budget, page: &[u8]) -> Result<Printout, 
         budget,
         stream: false,
     };
-    match answer_stream(alloc, &command, page) {
-        Ok(printout) => Ok(printout),
-        // `check` prints a refusal, and fails only for lack of memory.
-        Err(_) => Err(AllocError),
-    }
+    // `check` prints a refusal, and fails only for lack of memory.
+    answer_stream(alloc, &command, page).map_err(|_| AllocError)
 }
 
-/// Returns the answer for a refused page, without a body.
-fn refused_answer(alloc: Global, refusal: Refusal) -> Result<BatchAnswer, AllocError>
-    ensures { IfOk result (λ a. (a.line.items ≡ refused_line refusal) × (a.body ≡ [])) }
+/// Returns the answer for a page that is refused, or for lines that make none, without a body.
+fn failure_answer(alloc: Global, failure: Failure) -> Result<BatchAnswer, AllocError>
+    ensures { IfOk result (λ a. (a.line.items ≡ failure_text failure ++ 10 ∷ []) × (a.body ≡ [])) }
 {
     Ok(BatchAnswer {
-        line: refusal_line(alloc, refusal)?,
+        line: failure_line(alloc, failure)?,
         body: Body::new(Vec::new(alloc)),
     })
 }
@@ -167,17 +166,7 @@ fn list_answer(alloc: Global, budget: Budget, page: &[u8]) -> Result<BatchAnswer
     let text = text_with_space(alloc)?;
     match read_counted(alloc, budget, page, LineSink::over(text)) {
         Ok((sink, count)) => accepted_answer(alloc, count, Body::after_space(sink.into_text())),
-        Err(refusal) => refused_answer(alloc, refusal),
-    }
-}
-
-/// Returns the answer with the canonical text that was made of a page, or with its refusal.
-fn text_answer(alloc: Global, found: Result<PageText, Refusal>) -> Result<BatchAnswer, AllocError>
-    ensures { IfOk result (λ a. ShowsText found a.line.items a.body) }
-{
-    match found {
-        Ok(found) => accepted_answer(alloc, found.count, Body::new(found.text)),
-        Err(refusal) => refused_answer(alloc, refusal),
+        Err(refusal) => failure_answer(alloc, Failure::Refused(refusal)),
     }
 }
 
@@ -185,9 +174,10 @@ fn text_answer(alloc: Global, found: Result<PageText, Refusal>) -> Result<BatchA
 fn canon_answer(alloc: Global, budget: Budget, page: &[u8]) -> Result<BatchAnswer, AllocError>
     ensures { IfOk result (λ a. IsAnswer Question.Canon budget page.now a.line.items a.body) }
 {
-    match page_text(alloc, budget, page) {
-        Ok(found) => text_answer(alloc, found),
-        Err(AllocError) => Err(AllocError),
+    let made = page_text(alloc, budget, page)?;
+    match made {
+        Ok(found) => accepted_answer(alloc, found.count, Body::new(found.text)),
+        Err(refusal) => failure_answer(alloc, Failure::Refused(refusal)),
     }
 }
 
@@ -197,7 +187,7 @@ fn ended_line(alloc: Global, ended: Result<usize, Refusal>) -> Result<Vec<u8>, A
 {
     match ended {
         Ok(count) => count_line(alloc, count as u64),
-        Err(refusal) => refusal_line(alloc, refusal),
+        Err(refusal) => failure_line(alloc, Failure::Refused(refusal)),
     }
 }
 
@@ -213,17 +203,6 @@ fn places_answer(alloc: Global, budget: Budget, page: &[u8]) -> Result<BatchAnsw
     })
 }
 
-/// Returns the answer with the reason why lines make no page.
-fn unmade_answer(alloc: Global, fault: MakeFault) -> Result<BatchAnswer, AllocError>
-    ensures { IfOk result (λ a. (a.line.items ≡ unmade_line fault) × (a.body ≡ [])) }
-{
-    let line = lines_failure(fault).line();
-    Ok(BatchAnswer {
-        line: Vec::from_slice(alloc, line.as_bytes())?,
-        body: Body::new(Vec::new(alloc)),
-    })
-}
-
 /// Returns the answer with the page that lines make.
 fn make_answer(alloc: Global, lines: &[u8]) -> Result<BatchAnswer, AllocError>
     ensures { IfOk result (λ a. AnswersLines lines.now a.line.items a.body) }
@@ -233,7 +212,7 @@ fn make_answer(alloc: Global, lines: &[u8]) -> Result<BatchAnswer, AllocError>
             line: count_line(alloc, page.count as u64)?,
             body: Body::new(page.text),
         }),
-        Err(fault) => unmade_answer(alloc, fault),
+        Err(fault) => failure_answer(alloc, lines_failure(fault)),
     }
 }
 

@@ -1,4 +1,6 @@
 //! Laws about requests and answers. Each is the contract of a function that does nothing.
+#![tactic(auto, using(crate::proofs::LawLemmas::laws))]
+
 ghost use Rattle.std.specs.Prelude.{◌≡◌};
 ghost use Rattle.nap_make.specs.Numbers.{digits_limit};
 ghost use Rattle.nap_make.specs.declared.number.TheConstants.{DIGITS};

@@ -1,9 +1,9 @@
 //! Requests, one after another, and their answers.
 ghost use Rattle.std.specs.Prelude.{◌≡◌, ◌+◌, ◌++◌, IfOk, drop, length, take};
-ghost use Rattle.nap_command.specs.Devices.{devices};
+ghost use Rattle.nap_command.specs.Devices.{devices, pipes};
 ghost use Rattle.nap_list.specs.declared.device.TheConstants.{READ_SIZE};
 ghost use Rattle.nap_command.specs.Requests.{IsWhole};
-ghost use Rattle.nap_command.specs.Sessions.{IsAnswered, IsExchanged, IsHeadSent, IsSent, Replies, Served, Session, pipes};
+ghost use Rattle.nap_command.specs.Sessions.{IsAnswered, IsExchanged, IsSent, Replies, Served, Session};
 
 use crate::batch::answer::{Body, answer_page};
 use crate::batch::request::RequestLine;
@@ -32,6 +32,9 @@ pub enum Ended {
     Memory,
 }
 
+/// The number of bytes written so far, or how a run ends.
+type Sent = Result<u64, Ended>;
+
 /// The answer if memory ran out for one.
 const NO_MEMORY: &[u8] = b"no memory\n0\n";
 
@@ -47,21 +50,9 @@ fn answer_parts(
     answer.into_parts()
 }
 
-/// Writes the bytes before a body, without a flush. Returns the number of bytes written so far, of which `written` came
-/// before.
-fn send_head<O: Outlet>(output: &mut O, written: u64, head: &[u8]) -> Result<u64, Ended>
-    ensures { IsHeadSent O.Outlet written head.now output.old output.new result }
-{
-    let mut sent = written;
-    match send_all(output, &mut sent, head) {
-        Ok(()) => Ok(sent),
-        Err(_) => Err(Ended::Write(sent)),
-    }
-}
-
 /// Writes an answer, or the rest of one, and flushes the output. Returns the number of bytes written so far, of which
 /// `written` came before.
-fn send<O: Outlet>(output: &mut O, written: u64, text: &[u8]) -> Result<u64, Ended>
+fn send<O: Outlet>(output: &mut O, written: u64, text: &[u8]) -> Sent
     ensures { IsSent O.Outlet written text.now output.old output.new result }
 {
     match write_whole(output, text) {
@@ -74,17 +65,13 @@ fn send<O: Outlet>(output: &mut O, written: u64, text: &[u8]) -> Result<u64, End
 
 /// Writes an answer in two parts, and flushes the output. Returns the number of bytes written so far, of which
 /// `written` came before.
-fn send_parts<O: Outlet>(
-    output: &mut O,
-    written: u64,
-    head: &[u8],
-    body: &[u8],
-) -> Result<u64, Ended>
+fn send_parts<O: Outlet>(output: &mut O, written: u64, head: &[u8], body: &[u8]) -> Sent
     ensures { IsSent O.Outlet written (head.now ++ body.now) output.old output.new result }
 {
-    match send_head(output, written, head) {
-        Ok(head_sent) => send(output, head_sent, body),
-        Err(ended) => Err(ended),
+    let mut sent = written;
+    match send_all(output, &mut sent, head) {
+        Ok(()) => send(output, sent, body),
+        Err(_) => Err(Ended::Write(sent)),
     }
 }
 
@@ -95,7 +82,7 @@ fn answer<O: Outlet>(
     page: &[u8],
     output: &mut O,
     written: u64,
-) -> Result<u64, Ended>
+) -> Sent
     ensures { Replies O.Outlet written line.question line.budget page.now output.old output.new result }
 {
     match answer_parts(alloc, line, page) {
@@ -112,7 +99,7 @@ fn answer_front<O: Outlet>(
     buffer: &mut InputBuffer,
     output: &mut O,
     written: u64,
-) -> Result<u64, Ended>
+) -> Sent
     requires { IsWhole buffer.old.bytes line start }
     ensures buffered { buffer.new ≡ record { bytes = drop (start + line.size) buffer.old.bytes; memory = buffer.old.memory } }
     ensures answers { let page = take line.size (drop start buffer.old.bytes) in
@@ -132,7 +119,7 @@ fn exchange<I: Inlet, O: Outlet>(
     input: &mut I,
     output: &mut O,
     written: u64,
-) -> Result<u64, Ended>
+) -> Sent
     requires { length scratch.old ≡ READ_SIZE }
     ensures space { length scratch.new ≡ READ_SIZE }
     ensures exchanged { let seen = pipes I.Inlet O.Outlet in
@@ -148,6 +135,7 @@ fn exchange<I: Inlet, O: Outlet>(
 }
 
 /// Answers requests until the input ends or a device fails.
+// Kept out of the caller, whose frame would hold its buffers.
 #[inline(never)]
 fn serve<I: Inlet, O: Outlet>(alloc: Global, input: &mut I, output: &mut O) -> Ended
     ensures { let seen = pipes I.Inlet O.Outlet in Session (seen input.old output.old) (seen input.new output.new) result }

@@ -165,10 +165,7 @@ fn read_some<I: Inlet>(input: &mut I, scratch: &mut [u8], most: usize) -> Result
     ensures reads { ReadsSome I.Inlet most input.old input.new result }
 {
     let piece = most.min(scratch.len());
-    match input.read(&mut scratch[..piece]) {
-        Ok(count) => Ok(count),
-        Err(fault) => Err(fault),
-    }
+    input.read(&mut scratch[..piece])
 }
 
 /// Reads `missing` bytes and drops them, with at most `most` reads.
@@ -236,6 +233,7 @@ fn read_more<I: Inlet>(
 }
 
 /// Returns what the bytes begin with after the last allowed read.
+#[tactic(auto, using(crate::proofs::FrontLemmas::more_begun))]
 fn final_front(bytes: &[u8]) -> Result<FoundRequest, Ended>
     ensures { IsLast bytes.now result }
 {

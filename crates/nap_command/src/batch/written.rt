@@ -23,6 +23,7 @@ pub(crate) struct Written {
 }
 
 /// Returns the length of the first of some lines, with its LF.
+#[tactic(auto, using(crate::proofs::LineLemmas::first_end, crate::proofs::LineLemmas::some_end))]
 #[inline(always)]
 fn first_line_len(lines: &[u8]) -> usize
     requires { 0 < length lines.now }

@@ -3,8 +3,7 @@ ghost use Rattle.nap_list.specs.Sending.{SendsBytes};
 
 use crate::device::Outlet;
 
-/// Writes all bytes, and adds the number that the outlet takes to `written`, saturating at the greatest `u64`. The error
-/// is how many of the bytes were taken before a write failed.
+/// Writes all bytes, and adds the number taken to `written`, saturating. The error is the number before a failed write.
 pub fn send_all<O: Outlet>(outlet: &mut O, written: &mut u64, bytes: &[u8]) -> Result<(), usize>
     ensures { SendsBytes O.Outlet outlet.old written.old bytes.now outlet.new written.new result }
 {

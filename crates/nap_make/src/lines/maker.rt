@@ -1,14 +1,9 @@
 //! Entries of lines that come one after another.
-ghost use Rattle.std.specs.Prelude.{◌≡◌, ◌≢◌, ◌+◌, ◌^◌, ◌<◌, ◌++◌, List, [], ◌∷◌, All, IfOk, IsSome, MatchResult, OnOk, false, length, IfSome, MatchOption, codes};
-ghost use Rattle.nap_list.specs.declared.entry.Entry.{Entry};
-ghost use Rattle.nap_list.specs.Batches.{text_entries};
-ghost use Rattle.nap_list.specs.Entry.{IsCode};
-ghost use Rattle.nap_list.specs.State.{Fits, after, start};
-ghost use Rattle.nap_lines.specs.Listing.{lines};
+ghost use Rattle.std.specs.Prelude.{◌≡◌, ◌≢◌, ◌+◌, ◌^◌, ◌<◌, ◌++◌, List, [], ◌∷◌, All, IfOk, IsSome, MatchResult, OnOk, length, IfSome, MatchOption, codes};
+ghost use Rattle.nap_make.specs.Types.{Entry, Fits, IsCode, after, line, lines, set_text, text_entries};
 ghost use Rattle.nap_make.specs.Entries.{IsProper};
 ghost use Rattle.nap_make.specs.ListMaking.{IsUnendedLine, MakerHasPut, PutsEntry, StopsLines};
 ghost use Rattle.nap_make.specs.Runs.{FollowsLine, LeavesRest, PutsEntries, TakesLines, fault_of_sink, HasCharLine, IsNoCharLine, code_line, code_lines};
-ghost use Rattle.nap_lines.specs.Lines.{line, set_text};
 
 use crate::cutting::rest_after;
 use crate::fault::LineFault;
@@ -19,6 +14,9 @@ use arrayvec::ArrayVec;
 use nap_codes::CharSet;
 use nap_list::{Batch, Entry, Hand, Pen, Sink, SinkFault, State};
 use std::alloc::Global;
+
+/// What follows the lines taken, or why they aren't a list's.
+pub(crate) type Rest<'a> = Result<&'a [u8], MakeFault>;
 
 /// The greatest number of lines that are taken together after one.
 pub(crate) const RUN: usize = 256;
@@ -84,25 +82,18 @@ fn next_code<'a>(line: &CharLine, bytes: &'a [u8]) -> Option<(u8, &'a [u8])>
 }
 
 /// Reads the lines in front that have these parts, and returns what follows them.
-pub(crate) fn read_codes<'a>(
-    codes: &mut ArrayVec<u8, RUN>,
-    line: &CharLine,
-    bytes: &'a [u8],
-) -> &'a [u8]
+fn read_codes<'a>(codes: &mut ArrayVec<u8, RUN>, line: &CharLine, bytes: &'a [u8]) -> &'a [u8]
     requires { codes.old.items ≡ [] }
     ensures codes { All IsCode codes.new.items }
     ensures lines { bytes.now ≡ code_lines line.now codes.new.items ++ result.now }
 {
     let mut rest = bytes;
     while codes.len() < RUN {
-        match next_code(line, rest) {
-            Some(next) => {
-                let (code, more) = next;
-                codes.push(code);
-                rest = more;
-            }
-            None => return rest,
-        }
+        let Some((code, more)) = next_code(line, rest) else {
+            return rest;
+        };
+        codes.push(code);
+        rest = more;
     }
     rest
 }
@@ -131,21 +122,6 @@ pub(crate) struct LineMaker<S> {
 }
 
 impl<S: Sink> LineMaker<S> {
-    /// Returns a maker that has taken no line.
-    pub(crate) fn new(sink: S) -> LineMaker<S>
-        requires start { S.state sink ≡ start }
-        requires works { S.failed sink ≡ false }
-        ensures holds { MakerHasPut S.Sink sink [] result }
-        ensures agrees { S.state result.sink ≡ result.state }
-    {
-        LineMaker {
-            sink,
-            state: State::start(),
-            lines: 0,
-            opening: 0,
-        }
-    }
-
     /// Returns the line that opened the definition that is open after this line, if one is.
     fn opening_after(&self, line: usize) -> usize
         ensures open { IsSome self.now.state.definition → result ≡ self.now.opening }
@@ -216,7 +192,7 @@ impl<S: Sink> LineMaker<S> {
     }
 
     /// Takes the lines in front that differ from this one in their character alone, and returns what follows them.
-    fn take_alike<'a>(&mut self, line: &CharLine, more: &'a [u8]) -> Result<&'a [u8], MakeFault>
+    fn take_alike<'a>(&mut self, line: &CharLine, more: &'a [u8]) -> Rest<'a>
         requires { FollowsLine S.Sink line.now self.old }
         ensures leaves { IfOk result (λ rest. LeavesRest S.Sink self.new more.now rest.now) }
         ensures takes { (s : S) (es : List Entry) → MakerHasPut S.Sink s es self.old → MatchResult result (λ rest. TakesLines S.Sink s es more.now self.new rest.now) (StopsLines S.Sink s (lines es ++ more.now) self.new.sink) }
@@ -227,14 +203,8 @@ impl<S: Sink> LineMaker<S> {
         Ok(rest)
     }
 
-    /// Takes the next line, without LF, and those behind it that differ from it in their character alone. Returns what
-    /// follows them.
-    pub(crate) fn take_line<'a>(
-        &mut self,
-        alloc: Global,
-        bytes: &[u8],
-        more: &'a [u8],
-    ) -> Result<&'a [u8], MakeFault>
+    /// Takes the next line, without LF, and those alike behind it, and returns what follows them.
+    pub(crate) fn take_line<'a>(&mut self, alloc: Global, bytes: &[u8], more: &'a [u8]) -> Rest<'a>
         requires agrees { S.state self.old.sink ≡ self.old.state }
         requires whole { All (λ b. b ≢ 10) bytes.now }
         ensures leaves { IfOk result (λ rest. LeavesRest S.Sink self.new more.now rest.now) }

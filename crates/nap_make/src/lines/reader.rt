@@ -1,16 +1,14 @@
 //! Lines that are read in pieces.
 ghost use Rattle.std.specs.Prelude.{◌≡◌, ◌≢◌, ◌≤◌, ◌++◌, ◌∷◌, ℕ, List, [], All, IfErr, IfOk, MatchResult, OnOk, length, false};
-ghost use Rattle.nap_list.specs.declared.entry.Entry.{Entry};
-ghost use Rattle.nap_list.specs.State.{start};
+ghost use Rattle.nap_make.specs.Types.{Entry, lines, start};
 ghost use Rattle.nap_make.specs.Laws.{longest_line};
 ghost use Rattle.nap_make.specs.ListMaking.{FeedsLines, Finishes, MakerHasPut, IsReady, KeepsPart, HasReadLines, StopsLines};
 ghost use Rattle.nap_make.specs.Runs.{LeavesRest, TakesLines};
-ghost use Rattle.nap_lines.specs.Listing.{lines};
 
 use crate::cutting::split_at_byte;
 use crate::lines::MakeFault;
-use crate::lines::maker::LineMaker;
-use nap_list::Sink;
+use crate::lines::maker::{LineMaker, Rest};
+use nap_list::{Sink, State};
 use std::alloc::Global;
 use std::cmp::min;
 
@@ -35,7 +33,12 @@ impl<S: Sink> LineReader<S> {
         ensures ready { IsReady S.Sink result }
     {
         LineReader {
-            maker: LineMaker::new(sink),
+            maker: LineMaker {
+                sink,
+                state: State::start(),
+                lines: 0,
+                opening: 0,
+            },
             part: Vec::new(alloc),
         }
     }
@@ -58,14 +61,8 @@ impl<S: Sink> LineReader<S> {
         Ok(())
     }
 
-    /// Reads the last bytes of a line, which LF follows, and the lines behind it that differ from it in their character
-    /// alone. Returns what follows them.
-    fn end_line<'a>(
-        &mut self,
-        alloc: Global,
-        bytes: &[u8],
-        more: &'a [u8],
-    ) -> Result<&'a [u8], MakeFault>
+    /// Reads the last bytes of a line, which LF follows, and the lines alike behind it. Returns what follows them.
+    fn end_line<'a>(&mut self, alloc: Global, bytes: &[u8], more: &'a [u8]) -> Rest<'a>
         requires { IsReady S.Sink self.old × All (λ b. b ≢ 10) bytes.now }
         ensures part { OnOk result (self.new.part.items ≡ []) }
         ensures leaves { IfOk result (λ rest. LeavesRest S.Sink self.new.maker more.now rest.now) }

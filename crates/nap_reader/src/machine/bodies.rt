@@ -1,7 +1,7 @@
 //! Macro bodies, from the name to their end (PROFILE.md, Macros).
 ghost use Rattle.std.specs.Prelude.{◌≡◌, ◌⊎◌, ◌<◌, [], None, Some, MatchResult, OnOk, ℕ, List, false, true};
 
-use super::{Machine, Refused};
+use super::{Answer, Machine};
 use crate::body::{OpenBody, body_prefix_len, ends_body};
 use crate::fault::Fault;
 use crate::input::Input;
@@ -22,7 +22,7 @@ impl<S: Sink> Machine<S> {
     /// Consumes bytes of the body that is being defined, until it ends or no byte is left.
     #[inline(never)]
     #[tactic(auto, using(crate::proofs::DefineLemmas::next_byte, crate::proofs::DefineLemmas::after_escape, crate::proofs::NextByteLemmas::can_pass, crate::proofs::FurtherLemmas::goes_nowhere, crate::proofs::FurtherLemmas::goes_then, crate::proofs::FurtherLemmas::smaller))]
-    pub(super) fn take_body(&mut self, input: &mut Input, piece: &[u8]) -> Result<(), Refused>
+    pub(super) fn take_body(&mut self, input: &mut Input, piece: &[u8]) -> Answer
         requires live { IsLive self.old }
         requires reads { Reads input.old piece.now }
         ensures live { OnOk result (IsLive self.new) }
@@ -53,13 +53,7 @@ impl<S: Sink> Machine<S> {
     /// Consumes an ESC as undecided, or all bytes of the body up to one.
     #[inline(always)]
     #[tactic(auto, using(crate::proofs::NextByteLemmas::can_pass, crate::proofs::FurtherLemmas::next_same, crate::proofs::FurtherLemmas::same_input))]
-    fn keep(
-        &mut self,
-        input: &mut Input,
-        body: OpenBody,
-        next: Next,
-        piece: &[u8],
-    ) -> Result<(), Refused>
+    fn keep(&mut self, input: &mut Input, body: OpenBody, next: Next, piece: &[u8]) -> Answer
         requires live { IsLive self.old }
         requires open { input.old.body ≡ Some (record body { escape = None }) }
         requires next { IsNextByte input.old piece.now next.byte next.place }
@@ -69,7 +63,7 @@ impl<S: Sink> Machine<S> {
         ensures goes { MatchResult result (λ _. Goes piece.now 1 self.old input.old self.new input.new) (λ _. StopsFrom piece.now self.old input.old self.new input.new) }
     {
         if next.byte == 0x1B {
-            input.hold_escape(body, next.place);
+            input.set_body(body.name, body.show, Some(next.place));
             input.advance(1);
             return Ok(());
         }
@@ -92,13 +86,7 @@ impl<S: Sink> Machine<S> {
 
     /// Adds the undecided ESC to the body, since this byte doesn't end the body after it. Adds the byte too, or keeps
     /// it as undecided if it is an ESC.
-    pub(super) fn keep_escape(
-        &mut self,
-        input: &mut Input,
-        body: OpenBody,
-        next: Next,
-        piece: &[u8],
-    ) -> Result<(), Refused>
+    fn keep_escape(&mut self, input: &mut Input, body: OpenBody, next: Next, piece: &[u8]) -> Answer
         requires live { IsLive self.old }
         requires following { AfterEscape input.old body next.byte false }
         requires next { IsNextByte input.old piece.now next.byte next.place }
@@ -119,7 +107,7 @@ impl<S: Sink> Machine<S> {
             return self.refuse_next(input, Fault::Memory, next.place);
         };
         if next.byte == 0x1B {
-            input.hold_escape(body, next.place);
+            input.set_body(body.name, body.show, Some(next.place));
             input.advance(1);
             return Ok(());
         }
@@ -130,12 +118,7 @@ impl<S: Sink> Machine<S> {
     }
 
     /// Ends the open body, by the undecided ESC and the next byte.
-    pub(super) fn end_body(
-        &mut self,
-        input: &mut Input,
-        body: OpenBody,
-        next: Next,
-    ) -> Result<(), Refused>
+    fn end_body(&mut self, input: &mut Input, body: OpenBody, next: Next) -> Answer
         requires live { IsLive self.old }
         requires following { AfterEscape input.old body next.byte true }
         requires next { (piece : List ℕ) × IsNextByte input.old piece next.byte next.place }
@@ -150,9 +133,7 @@ impl<S: Sink> Machine<S> {
         if !body.show {
             input.bind(body.name);
             // No code is half-read in a body.
-            if self.lexer.at_rest() {
-                self.lexer.escape();
-            }
+            self.lexer.escape();
             return Ok(());
         }
         input.advance(1);

@@ -1,59 +1,18 @@
 //! The codes at the beginning of the next bytes.
-ghost use Rattle.std.specs.Prelude.{◌≡◌, ◌<◌, ◌≤◌, ◌↔◌, length, slice_index, IfSome, IsTrue, ◌⊎◌, None, ◌++◌, ℕ, All, Bool, List, ◌∷◌, []};
-ghost use Rattle.nap_reader.specs.Kinds.{kind_of};
-ghost use Rattle.nap_reader.specs.Names.{IsGraphic, IsTextByte, complete, front, is_fill};
+ghost use Rattle.std.specs.Prelude.{drop, ◌≡◌, ◌<◌, length, slice_index, ◌⊎◌, None, ◌++◌, ℕ, All, Bool, List, ◌∷◌, []};
+ghost use Rattle.nap_reader.specs.Names.{IsTextByte, complete, front, is_fill};
 ghost use Rattle.std.specs.List.{prefix_len};
+ghost use Rattle.nap_reader.specs.Kinds.{Kind, kind_of};
 ghost use Rattle.nap_reader.specs.Steps.{IsFrontCode};
 ghost use Rattle.nap_reader.specs.Framed.{placed_by_step};
-ghost use Rattle.nap_codes.specs.declared.code.Code.TheVariants as code;
 
 use crate::fault::Fault;
 use crate::input::Slice;
-use crate::machine::{Machine, Request, Taken, took, took_with};
-use crate::prefix::{text_bytes, whole_run};
+use crate::machine::{Machine, Request, Taken, took};
+use crate::prefix::{is_effector, text_bytes, whole_run};
 use crate::store::Store;
-use nap_codes::{
-    CharSet, Code, CodeSet, Lexer, NextCode, Opcode, Step, TextStep, format_effector, is_fill,
-};
+use nap_codes::{CharSet, Code, Lexer, NextCode, Opcode, Step, TextStep, format_effector, is_fill};
 use nap_list::Sink;
-
-/// What a reader does with a code.
-#[derive(Clone, Copy, Drop)]
-pub(crate) enum Kind {
-    /// Opens a run of operand bytes.
-    Opens(Opcode),
-    /// Is refused as Stray: an operand word outside a run.
-    Strays,
-    /// Adds nothing.
-    AddsNothing,
-    /// Acts: a character or a control.
-    Acts(Code),
-    /// Calls the macro with this name.
-    Calls(u8),
-    /// Defines the macro with this name.
-    Binds {
-        /// The name.
-        name: u8,
-        /// Whether the body is presented as soon as it is defined.
-        show: bool,
-    },
-}
-
-impl Kind {
-    /// Returns what a reader does with a code.
-    pub(crate) fn of(code: Code) -> Kind
-        ensures { result ≡ kind_of code }
-    {
-        match code {
-            Code::Op(op) => Kind::Opens(op),
-            Code::Operand(_) => Kind::Strays,
-            Code::Fill | Code::Shifted | Code::Designated(_, _) => Kind::AddsNothing,
-            Code::Call(name) => Kind::Calls(name),
-            Code::DefMacro { name, show } => Kind::Binds { name, show },
-            _ => Kind::Acts(code),
-        }
-    }
-}
 
 /// The kind of the first code of bytes, outside a run and a body.
 #[derive(Clone, Copy, Drop)]
@@ -85,7 +44,13 @@ pub(crate) fn front_of(lexer: &Lexer, byte: u8) -> FrontCode
                 return FrontCode::Opcode(op);
             }
         }
-        return graphic_front(lexer, byte);
+        if let Some(set) = lexer.char_set() {
+            return FrontCode::Characters(set);
+        }
+        if lexer.is_call(byte) {
+            return FrontCode::Call;
+        }
+        return FrontCode::Other;
     }
     if lexer.is_shift(byte) {
         return FrontCode::Shift;
@@ -94,29 +59,26 @@ pub(crate) fn front_of(lexer: &Lexer, byte: u8) -> FrontCode
     if byte == 0x1B {
         return FrontCode::Other;
     }
-    match lexer.format_effector(byte) {
-        Some(step) => match lexer.char_set() {
-            Some(set) => FrontCode::Characters(set),
-            None => FrontCode::Effector(step),
-        },
-        None if lexer.is_bell(byte) => FrontCode::Bell,
-        None => FrontCode::Other,
+    if is_effector(byte) {
+        return effector_front(lexer, byte);
     }
+    if lexer.is_bell(byte) {
+        return FrontCode::Bell;
+    }
+    FrontCode::Other
 }
 
-/// Returns the kind of the first code, which begins with a byte from `20` on that isn't an opcode.
+/// Returns the kind of the first code, which begins with a format effector of one byte.
 #[inline(always)]
-fn graphic_front(lexer: &Lexer, byte: u8) -> FrontCode
-    requires { 0x20 ≤ byte }
+fn effector_front(lexer: &Lexer, byte: u8) -> FrontCode
     ensures { IsFrontCode lexer.now byte result }
 {
-    match lexer.set_in_gl() {
-        Some(CodeSet::Primary) => FrontCode::Characters(CharSet::Primary),
-        Some(CodeSet::Supplementary) => FrontCode::Characters(CharSet::Supplementary),
-        Some(CodeSet::Mosaic) => FrontCode::Characters(CharSet::Mosaic),
-        Some(CodeSet::Drcs) => FrontCode::Characters(CharSet::Drcs),
-        Some(CodeSet::Macros) if byte < 0x80 => FrontCode::Call,
-        _ => FrontCode::Other,
+    if let Some(set) = lexer.char_set() {
+        return FrontCode::Characters(set);
+    }
+    match lexer.format_effector(byte) {
+        Some(step) => FrontCode::Effector(step),
+        None => FrontCode::Other,
     }
 }
 
@@ -170,17 +132,17 @@ impl<S: Sink> Machine<S> {
         let bytes = slice.bytes;
         let mut count = 0;
         while count < bytes.len() {
-            match self.code(&bytes[count..], ended) {
+            match self.code(bytes, count, ended) {
                 CodeOutcome::Acted(more) => count += more,
-                CodeOutcome::Clears(more) => return took_with(count + more, Request::Clear),
+                CodeOutcome::Clears(more) => return took(count + more, Request::Clear),
                 CodeOutcome::Calls(more, name) => {
                     count += more;
                     if store.has_body(name) {
-                        return took_with(count, Request::Call(name));
+                        return took(count, Request::Call(name));
                     }
                 }
                 CodeOutcome::Defines(more, name, show) => {
-                    return took_with(count + more, Request::Define(name, show));
+                    return took(count + more, Request::Define(name, show));
                 }
                 CodeOutcome::Opens(op) => return self.open(op, slice, count, ended),
                 CodeOutcome::Stopped(more, fault, index) => {
@@ -195,30 +157,31 @@ impl<S: Sink> Machine<S> {
                 }
             }
         }
-        took(count)
+        took(count, Request::Nothing)
     }
 
-    /// Consumes the first code of the bytes, if it is a complete one of those that need no request.
+    /// Consumes the code at an index of the bytes, if it is a complete one of those that need no request.
     #[inline(always)]
-    fn code(&mut self, bytes: &[u8], ended: bool) -> CodeOutcome
+    fn code(&mut self, bytes: &[u8], at: usize, ended: bool) -> CodeOutcome
         requires live { IsLive self.old }
         requires closed { self.old.open_run ≡ None }
-        ensures { Codes self.old self.new bytes.now ended result }
+        requires within { at < length bytes.now }
+        ensures { Codes self.old self.new (drop at bytes.now) ended result }
     {
-        let Some(byte) = bytes.first() else {
-            return CodeOutcome::Other;
-        };
-        match front_of(&self.lexer, *byte) {
-            FrontCode::Opcode(op) => self.opcode(op, bytes, ended),
-            FrontCode::Characters(set) => self.text(set, bytes),
+        let byte = bytes[at];
+        match front_of(&self.lexer, byte) {
+            FrontCode::Opcode(op) => self.opcode(op, &bytes[at..], ended),
+            FrontCode::Characters(set) => self.text(set, &bytes[at..]),
             FrontCode::Shift => {
-                self.lexer.shift(*byte);
+                self.lexer.shift(byte);
                 CodeOutcome::Acted(1)
             }
-            FrontCode::Effector(step) => self.effector(step, *byte),
-            FrontCode::Bell => self.bell(*byte),
-            FrontCode::Call => CodeOutcome::Calls(1, *byte),
-            FrontCode::Other => self.whole_code(bytes),
+            FrontCode::Effector(step) => self.single(Code::Step(step), byte),
+            FrontCode::Bell => self.single(Code::Bell, byte),
+            FrontCode::Call => CodeOutcome::Calls(1, byte),
+            // The most common one of the others, without the tests for them.
+            FrontCode::Other if byte == 0x1B => self.whole_code(&bytes[at..]),
+            FrontCode::Other => self.whole_code(&bytes[at..]),
         }
     }
 
@@ -276,7 +239,7 @@ impl<S: Sink> Machine<S> {
             return CodeOutcome::Other;
         };
         if let Some(step) = format_effector(*byte) {
-            return self.effector(step, *byte);
+            return self.single(Code::Step(step), *byte);
         }
         match self.work.text(set, *byte, &mut self.sink) {
             Ok(()) => CodeOutcome::Acted(1),
@@ -284,31 +247,17 @@ impl<S: Sink> Machine<S> {
         }
     }
 
-    /// Consumes a byte that is a format effector.
+    /// Consumes a byte that is a code that acts.
     #[inline(always)]
-    pub(super) fn effector(&mut self, step: TextStep, byte: u8) -> CodeOutcome
+    fn single(&mut self, code: Code, byte: u8) -> CodeOutcome
         requires live { IsLive self.old }
         requires closed { self.old.open_run ≡ None }
         requires rested { self.old.lexer.half ≡ [] }
-        requires is { front self.old.lexer.sets (byte ∷ []) ≡ complete (code.Step step) 1 self.old.lexer.sets }
+        requires acts { kind_of code ≡ Kind.acts code }
+        requires is { front self.old.lexer.sets (byte ∷ []) ≡ complete code 1 self.old.lexer.sets }
         ensures { (ended : Bool) (following : List ℕ) → Codes self.old self.new (byte ∷ following) ended result }
     {
-        match self.work.control(&Code::Step(step), &mut self.sink) {
-            Ok(()) => CodeOutcome::Acted(1),
-            Err(fault) => CodeOutcome::Stopped(0, Fault::from(fault), 0),
-        }
-    }
-
-    /// Consumes a byte that is BEL.
-    #[inline(always)]
-    fn bell(&mut self, byte: u8) -> CodeOutcome
-        requires live { IsLive self.old }
-        requires closed { self.old.open_run ≡ None }
-        requires rested { self.old.lexer.half ≡ [] }
-        requires is { front self.old.lexer.sets (byte ∷ []) ≡ complete code.Bell 1 self.old.lexer.sets }
-        ensures { (ended : Bool) (following : List ℕ) → Codes self.old self.new (byte ∷ following) ended result }
-    {
-        match self.work.bell(&mut self.sink) {
+        match self.work.control(&code, &mut self.sink) {
             Ok(()) => CodeOutcome::Acted(1),
             Err(fault) => CodeOutcome::Stopped(0, Fault::from(fault), 0),
         }
@@ -377,11 +326,11 @@ impl<S: Sink> Machine<S> {
         ensures takes { TakesFrom self.old self.new slice.now.place slice.now.step slice.now.bytes.now at ended result.count result.request }
     {
         match self.rest_of_escape(&slice.bytes[at..]) {
-            CodeOutcome::Acted(more) => took(at + more),
-            CodeOutcome::Clears(more) => took_with(at + more, Request::Clear),
-            CodeOutcome::Calls(more, name) => took_with(at + more, Request::Call(name)),
+            CodeOutcome::Acted(more) => took(at + more, Request::Nothing),
+            CodeOutcome::Clears(more) => took(at + more, Request::Clear),
+            CodeOutcome::Calls(more, name) => took(at + more, Request::Call(name)),
             CodeOutcome::Defines(more, name, show) => {
-                took_with(at + more, Request::Define(name, show))
+                took(at + more, Request::Define(name, show))
             }
             CodeOutcome::Stopped(more, fault, index) => {
                 self.stop(at + more, fault, slice.place_of(at + index))
@@ -392,37 +341,32 @@ impl<S: Sink> Machine<S> {
 
     /// Consumes a byte of any code.
     fn any_byte(&mut self, slice: &Slice, at: usize, ended: bool) -> Taken
+        requires within { at < length slice.now.bytes.now }
         requires live { IsLive self.old }
         requires closed { self.old.open_run ≡ None }
-        requires within { at < length slice.now.bytes.now }
-        ensures some { at < result.count ⊎ (result.request ≡ Request.Stop) }
         ensures closed { EndsClosed self.new (length slice.now.bytes.now) result.count result.request }
+        ensures some { at < result.count ⊎ (result.request ≡ Request.Stop) }
         ensures takes { TakesFrom self.old self.new slice.now.place slice.now.step slice.now.bytes.now at ended result.count result.request }
     {
         let byte = slice.bytes[at];
         let code = match self.lexer.step(byte) {
-            Step::More => return took(at + 1),
+            Step::More => return took(at + 1, Request::Nothing),
             Step::Fault(fault) => return self.stop(at, Fault::from(fault), slice.place_of(at)),
             Step::Code(code) => code,
         };
-        let request = match Kind::of(code) {
-            Kind::Opens(op) => return self.open(op, slice, at, ended),
-            Kind::Strays => return self.stop(at, Fault::Stray, slice.place_of(at)),
-            Kind::AddsNothing => return took(at + 1),
-            Kind::Calls(name) => {
-                return Taken {
-                    count: at + 1,
-                    request: Request::Call(name),
-                };
-            }
-            Kind::Acts(_) => Request::Nothing,
-            Kind::Binds { name, show } => Request::Define(name, show),
+        let request = match code {
+            Code::Op(op) => return self.open(op, slice, at, ended),
+            Code::Operand(_) => return self.stop(at, Fault::Stray, slice.place_of(at)),
+            Code::Fill | Code::Shifted | Code::Designated(_, _) => return took(
+                at + 1,
+                Request::Nothing,
+            ),
+            Code::Call(name) => return took(at + 1, Request::Call(name)),
+            Code::DefMacro { name, show } => Request::Define(name, show),
+            _ => Request::Nothing,
         };
         match self.work.control(&code, &mut self.sink) {
-            Ok(()) => Taken {
-                count: at + 1,
-                request,
-            },
+            Ok(()) => took(at + 1, request),
             Err(fault) => self.stop(at, Fault::from(fault), slice.place_of(at)),
         }
     }

@@ -13,7 +13,7 @@ use nap_list::Sink;
 use std::alloc::AllocError;
 
 impl<S: Sink> Machine<S> {
-    ghost use Rattle.nap_reader.specs.Steps.{Codes, EndsClosed, IsLive, IsOpcodeByte, TakesFrom, Executes, FailsRun, Progresses, Takes};
+    ghost use Rattle.nap_reader.specs.Steps.{EndsClosed, IsLive, IsOpcodeByte, TakesFrom, Executes, FailsRun, Progresses, Takes};
 
     /// Opens a run: the opcode is at this index, and the bytes after it are its operands.
     #[inline(never)]
@@ -62,7 +62,7 @@ impl<S: Sink> Machine<S> {
             return self.stop(0, Fault::Memory, slice.place);
         }
         if count == slice.bytes.len() && !ended {
-            return took(count);
+            return took(count, Request::Nothing);
         }
         match self.execute(open_run) {
             Ok(clears) => Taken {

@@ -1,4 +1,4 @@
-use Rattle.nap_c.proofs.Common.{CountSink, CountsInBudget, ap, inl, refl, subst, ℕ}
+use Rattle.nap_c.proofs.Common.{CountSink, ap, inl, refl}
 use Rattle.nap_c.proofs.AnswerLemmas.{answers_uncounted, refused_to_count}
 use Rattle.nap_c.proofs.call.naplps_check.Goals as goal
 
@@ -9,4 +9,5 @@ returns-in-Err c =
     let b = c.in-Some.budget in
     let none = ap (λ (s : CountSink). s.count) c.new-2.ensures in
     let refused = refused_to_count _ c.new-2.result none (λ d wants. wants) (λ t. refl) b page r.fault r.place c.in-Err.ensures in
-    inl (c.in-Some.ensures.found.0 refl, subst (λ (b : ℕ). CountsInBudget b page c.refused_answer.result) c.in-Some.ensures.value (answers_uncounted b page r.fault r.place c.refused_answer.result refused c.refused_answer.ensures))
+    let answered = answers_uncounted b page r.fault r.place c.refused_answer.result refused c.refused_answer.ensures in
+    inl (c.in-Some.ensures.found.0 refl, rw c.in-Some.ensures.value at answered)

@@ -1,5 +1,4 @@
-use Rattle.nap_c.proofs.Common.{Check, HasChecked, List, Option, subst, sym, ℕ}
-use Rattle.nap_c.specs.Checks.{FeedsPiece}
+use Rattle.nap_c.proofs.Common.{Check, FeedsPiece, HasChecked, List, Option, subst, sym, ℕ}
 use Rattle.nap_c.proofs.pieces.naplps_check_feed.Goals as goal
 
 -- a piece of the page was read

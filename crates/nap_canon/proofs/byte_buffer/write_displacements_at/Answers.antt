@@ -1,20 +1,13 @@
-use Rattle.nap_canon.proofs.Common.{Coordinates, List, [], ap, append-nil, arith, displacement_bytes, displacement_to, drop_of_length-le, length, length-append, move_bytes, refl, sym, with_bytes_at, ℕ, ◌*◌, ◌++◌, ◌+◌, ◌∙◌, ◌≡◌}
-use Rattle.nap_canon.proofs.texts.AppendedLemmas.{appended_none, appended_after}
-use Rattle.nap_canon.proofs.texts.WriterLemmas.{move_size, displacements_more}
+use Rattle.nap_canon.proofs.Common.{List, [], ap, append-nil, arith, displacement_bytes, displacement_to, drop_of_length-le, length, length-append, move_bytes, refl, with_bytes_at, ℕ, ◌*◌, ◌++◌, ◌+◌, ◌∙◌, ◌≡◌}
+use Rattle.nap_canon.proofs.texts.AppendedLemmas.{appended_after, appended_none}
+use Rattle.nap_canon.proofs.texts.WriterLemmas.{displacements_more, move_size}
 use Rattle.nap_canon.proofs.byte_buffer.write_displacements_at.Goals as goal
 
 pub loop-i-init : goal.loop-i-init
 loop-i-init c = ([], appended_none c.args.bytes.now c.args.at, refl, refl)
 
 pub write_bytes_at-requires : goal.write_bytes_at-requires
-write_bytes_at-requires c = record {
-  within = omega (
-    arith,
-    c.loop-i-test.true,
-    c.requires.within,
-    ap length (c.deref.ensures.0 ∙ c.put_move-operand.ensures) ∙ move_size c.to.result,
-  );
-}
+write_bytes_at-requires c = grind (arith, length, move_size)
 
 pub loop-i-preserved : goal.loop-i-preserved
 loop-i-preserved c =
@@ -39,9 +32,4 @@ loop-i-preserved c =
 
 pub returns : goal.returns
 unfolding displacement_bytes
-returns c =
-    let (done, bytes, size, all) = c.loop-i.invariant in
-    let none = drop_of_length-le c.args.others.now {i = c.loop-i.i} (omega (arith, c.loop-i-test.false)) in
-    let whole : done ≡ displacement_bytes c.args.first c.args.others.now =
-    sym (append-nil done) ∙ ap (λ (qs : List Coordinates). done ++ displacement_bytes c.loop-i.from qs) (sym none) ∙ all in
-    bytes ∙ ap (with_bytes_at c.args.bytes.now c.args.at) whole
+returns c = grind (arith, drop_of_length-le, append-nil)

@@ -1,4 +1,4 @@
-use Rattle.nap_canon.proofs.Common.{IsPageText, inl, subst}
+use Rattle.nap_canon.proofs.Common.{IsPageText, arith, subst}
 use Rattle.nap_canon.proofs.reading_back.CanonicalLaws.{equal_texts, own_text, plain_text, read_as}
 use Rattle.nap_canon.proofs.conversion.normalise.Goals as goal
 
@@ -20,14 +20,4 @@ returns-in-Ok-Ok c =
     }
 
 pub returns-in-Ok-Err : goal.returns-in-Ok-Err
-returns-in-Ok-Err c =
-    let why = subst (IsPageText c.args.budget c.args.bytes.now) c.in-Ok-Err.field-0-is c.in-Ok-Err.ensures in
-    record {
-      canonical = tt;
-      plain = tt;
-      read_again = tt;
-      own = tt;
-      equal = tt;
-      refused = rw c.in-Ok-Err.field-0-is why.refused;
-      memory = rw c.in-Ok-Err.field-0-is (λ is. inl (why.memory is));
-    }
+returns-in-Ok-Err c = grind arith

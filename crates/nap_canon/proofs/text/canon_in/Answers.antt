@@ -1,5 +1,4 @@
-use Rattle.nap_canon.proofs.Common.{Err, IsPlain, IsReadAs, IsTextAnswer, List, ap, err_from_is_err_and, refl, subst, sym, ℕ, ◌∙◌, ◌≡◌}
-use Rattle.nap_canon.specs.declared.text.CanonFault.TheVariants.{Memory}
+use Rattle.nap_canon.proofs.Common.{Err, IsPlain, IsReadAs, IsTextAnswer, List, Memory, ap, err_from_is_err_and, refl, subst, sym, ℕ, ◌∙◌, ◌≡◌}
 use Rattle.nap_canon.proofs.reading_back.CanonicalLaws.{text_is_read}
 use Rattle.nap_canon.proofs.plain_codes.PlainTexts.{text_is_plain}
 use Rattle.nap_canon.proofs.texts.FaultLemmas.{illegal_there, illegal_nowhere, never_breaks}
@@ -13,7 +12,7 @@ returns-in-Err c = record {
   text = tt;
   plain = tt;
   read_back = tt;
-  memory = λ is. (let bad : ⊥ = cc in absurd bad);
+  memory = λ is. (cc);
 }
 
 pub returns-in_err-bytes : goal.returns-in_err-bytes

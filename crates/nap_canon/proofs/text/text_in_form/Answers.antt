@@ -1,6 +1,6 @@
-use Rattle.nap_canon.proofs.Common.{All-more, All-nil, Canonical, Entry, Fits, Form, InRange, List, Piece, State, TextEnd, WritingTo, [], after, ap, append-nil, entry_pieces, header, pieces, pieces_bytes, start, subst, sym, take, text_end_after, text_in, walk, ℕ, ◌++◌, ◌∙◌, ◌∷◌, ◌≡◌}
+use Rattle.nap_canon.proofs.Common.{All-more, All-nil, Canonical, Entry, Fits, Form, InRange, List, Piece, State, TextEnd, [], after, ap, append-nil, arith, entry_pieces, pieces, pieces_bytes, start, subst, sym, take, text_end_after, text_in, walk, ℕ, ◌++◌, ◌∙◌, ◌∷◌, ◌≡◌}
 use Rattle.nap_canon.proofs.sinks.SinkingLemmas.{header_sent}
-use Rattle.nap_canon.proofs.texts.WalkLemmas.{text_more, text_end_more, walk_more, fits_at}
+use Rattle.nap_canon.proofs.texts.WalkLemmas.{fits_at, text_end_more, text_more, walk_more}
 use Rattle.nap_canon.proofs.text.text_in_form.Goals as goal
 
 alone : (form : Form) (s : State) (e : Entry) → pieces form s (e ∷ []) ≡ entry_pieces form s e
@@ -9,23 +9,11 @@ alone form s e = append-nil (entry_pieces form s e)
 
 -- the pieces of one more entry, in terms of the text
 next_pieces : {O : Type 0} (form : Form) (u : Canonical O) (so_far : State) (e : Entry) → u.form ≡ form → u.state ≡ so_far → pieces u.form u.state (e ∷ []) ≡ entry_pieces form so_far e
-next_pieces form u so_far e same state =
-    alone u.form u.state e
-    ∙ ap (λ (f : Form). entry_pieces f u.state e) same
-    ∙ ap (λ (s : State). entry_pieces form s e) state
+next_pieces form u so_far e same state = grind (arith, alone)
 
 pub loop-entry-init : goal.loop-entry-init
 unfolding pieces pieces_bytes text_end_after walk
-loop-entry-init c =
-    let begun = c.in_form-sink.ensures in
-    record {
-      text = (header_sent c.args.form _ c.new.result c.in_form-sink.result begun (sym c.failed.ensures ∙ c.if-failed.false)).grows.taken
-          ∙ ap (λ (bs : List ℕ). bs ++ header) (ap (λ (t : WritingTo _). t.writer.items) c.new.ensures ∙ c.in_ok-bytes.ensures.items);
-      form_is = begun.form_is;
-      text_end = begun.text_end;
-      state = begun.state;
-      range = All-nil InRange;
-    }
+loop-entry-init c = grind (arith, header_sent, All-nil)
 
 pub put_ref-requires : goal.put_ref-requires
 put_ref-requires c =

@@ -26,9 +26,9 @@ returns-in-Ok-write_whole g c =
 pub returns : goal.returns
 returns g c =
     let write = c.in-Err.ensures in
-    let t = c.report-status.ensures in
+    let t = c.report-in-Err.ensures in
     let before = outputs g.O.Outlet g.E.Outlet c.args.output c.args.errors.now in
-    let after = outputs g.O.Outlet g.E.Outlet c.write_whole-2.new.output c.report-status.new.errors in
+    let after = outputs g.O.Outlet g.E.Outlet c.write_whole-2.new.output c.report-in-Err.new.errors in
     explains_help (kind_of c.args.error) before after _ (λ h. true_or_false c.use_stderr.result c.if-use_stderr.false (c.use_stderr.ensures.1 h)) (record {
       text = c.as_slice-2.result.now;
       e = t.0;

@@ -12,11 +12,11 @@ pub returns-in-Err-clause-ends : goal.returns-in-Err-clause-ends
 returns-in-Err-clause-ends g c =
     let seen = reading g.I.Inlet c.args.input.now c.read_page.new.input in
     let (p, read, failing) = c.in-Err.ensures.read in
-    let (q, sent, printed) = c.print_found-ended.ensures.ends in
+    let (q, sent, printed) = c.print_found.ensures.ends in
     let finds = Finds c.args.command.now p seen in
     let fails = Fails c.args.command.now p seen in
-    let b = g.O.Outlet.failed c.print_found-ended.new.output in
-    let ended = c.print_found-ended.result in
+    let b = g.O.Outlet.failed c.print_found.result.0 in
+    let ended = c.print_found.result.1 in
     let none = nothing_printed q b (Err c.in-Err.failure) ended printed in
     let same : length q ≡ count_of q = rw none (omega arith) in
     (p, q, read, sent, subst (λ (size : ℕ). EndsPrinting finds fails size q b ended) same (ends_printing finds fails (Err c.in-Err.failure) q b ended failing printed))

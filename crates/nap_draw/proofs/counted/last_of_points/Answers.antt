@@ -1,4 +1,4 @@
-use Rattle.nap_draw.proofs.Common.{List, [], ap, arith, chunks_rest, chunks_size, length, nat_tests, point_at, subst, sym, ℕ, ◌∙◌}
+use Rattle.nap_draw.proofs.Common.{List, [], ap, arith, chunks_rest, chunks_size, nat_tests, point_at, subst, sym, ℕ, ◌∙◌}
 use Rattle.nap_draw.proofs.ByteRuns.{moves_chunk}
 use Rattle.nap_draw.proofs.Counting.{Spelt, spelt_ends, spelt_more, spelt_starts}
 use Rattle.nap_draw.proofs.counted.last_of_points.Goals as goal

@@ -1,12 +1,9 @@
-use Rattle.nap_draw.proofs.Common.{List, Some, ap, chunks_rest, map, moves, multi_of, operand_words, slice_get, sym, ℕ, ◌∙◌}
+use Rattle.nap_draw.proofs.Common.{List, Some, ap, arith, map, multi_of, slice_get, sym, ℕ, ◌∙◌}
 use Rattle.nap_draw.proofs.ByteRuns.{first_operand, moves_none}
 use Rattle.nap_draw.proofs.operands.first_move.Goals as goal
 
 pub returns-in_err-operand : goal.returns-in_err-operand
-returns-in_err-operand c =
-    let k = c.args.domain.multi in
-    let none = moves_none k (chunks_rest c.chunks.result) c.in_err-operand.ensures.steps.1.0 in
-    c.from_residual.ensures ∙ sym (ap (λ (run : List ℕ). slice_get (moves k (operand_words run)) 0) (sym c.chunks.ensures.rest) ∙ ap (λ ms. slice_get ms 0) none)
+returns-in_err-operand c = grind (arith, moves_none)
 
 pub returns : goal.returns
 returns c =

@@ -1,7 +1,6 @@
 use Rattle.nap_draw.proofs.Common.{Some, Span, ap, arith, displaced_point, rect_chain_spans, span, sym, ◌∙◌}
 use Rattle.nap_draw.proofs.ByteRuns.{moves_chunk, moves_none}
-use Rattle.nap_draw.proofs.Decoding.{filling_more, filling_none, chunk_less, filled, held, held_more, still_kept, pushed, crossed_more, crossed_all}
-use Rattle.nap_draw.proofs.Turns.{across_turn, cons_if_all_more, cons_if_all_none}
+use Rattle.nap_draw.proofs.Decoding.{across_turn, chunk_less, cons_if_all_more, cons_if_all_none, crossed_all, crossed_more, filled, filling_more, filling_none, held, held_more, pushed, still_kept}
 use Rattle.nap_draw.proofs.scratch.corners_into.Goals as goal
 
 pub returns-in_default-clause-fills : goal.returns-in_default-clause-fills

@@ -1,8 +1,14 @@
-use Rattle.nap_draw.proofs.Common.{Filling, false, moves, operand_words, points_reached, subst, ℕ, ◌≡◌}
-use Rattle.nap_draw.proofs.Decoding.{filling_even}
+use Rattle.nap_draw.proofs.Common.{ap, arith, moves, operand_words, points_reached, sym}
+use Rattle.nap_draw.proofs.Decoding.{filling_begins}
 use Rattle.nap_draw.proofs.scratch.fill_any_steps.Goals as goal
 
-pub returns-clause-fills : goal.returns-clause-fills
-returns-clause-fills c =
-    let Whole : ℕ → Type 0 = λ k. Filling (points_reached c.args.from (moves k (operand_words c.args.run.now))) (points_reached c.fill_whole_steps.new.at (moves k (operand_words c.in_ok-rest.rest.now))) false (λ front. c.fill_whole_steps.new.scratch.items ≡ front) in
-    c.fill_more_steps.ensures.fills _ (filling_even _ _ _ _ (subst Whole c.multi.ensures.value c.in_ok-rest.ensures.ok))
+pub returns-then-multi-ne3-clause-fills : goal.returns-then-multi-ne3-clause-fills
+returns-then-multi-ne3-clause-fills c =
+    let begins = ap (λ p. points_reached p (moves c.args.domain.multi (operand_words c.args.run.now))) (sym c.from_point.ensures) in
+    c.fill_more_steps.ensures.fills _ (filling_begins _ _ _ _ begins c.reset_scratch-full.ensures.items)
+
+pub returns-then-multi-ne3-clause-memory : goal.returns-then-multi-ne3-clause-memory
+returns-then-multi-ne3-clause-memory c = grind arith
+
+pub fill_by_four-requires-clause-empty : goal.fill_by_four-requires-clause-empty
+fill_by_four-requires-clause-empty c = c.reset_scratch-full.ensures.items

@@ -1,7 +1,6 @@
 use Rattle.nap_draw.proofs.Common.{Filling, List, [], ap, arith, chunks_rest, chunks_size, displaced_point, inl, inr, length, moves, operand_words, points_reached, subst, sym, ℕ, ◌++◌, ◌∙◌, ◌∷◌, ◌≡◌}
 use Rattle.nap_draw.proofs.ByteRuns.{moves_chunk, moves_none}
-use Rattle.nap_draw.proofs.Decoding.{filling_more, filling_none, chunk_less, filled, lacks_if, lacks_more, still_kept, pushed}
-use Rattle.nap_draw.proofs.Turns.{reached_turn, cons_if_all_more, cons_if_all_none}
+use Rattle.nap_draw.proofs.Decoding.{chunk_less, filled, filling_more, filling_none, lacks_if, lacks_more, moved, moved_none, pushed, still_kept}
 use Rattle.nap_draw.proofs.scratch.fill_more_steps.Goals as goal
 
 pub loop-operand-init : goal.loop-operand-init
@@ -14,7 +13,7 @@ loop-operand-init c =
       space = omega arith;
       few = omega (arith, ap length (ap chunks_rest given ∙ c.chunks-operand-items.ensures.rest));
       memory = λ is. inl is;
-      filling = λ all begins. subst (λ (run : List ℕ). Filling all (points_reached c.args.from (moves c.args.domain.multi (operand_words run))) c.args.lacks (λ prefix. c.args.scratch.now.items ≡ prefix)) (sym (ap chunks_rest given ∙ c.chunks-operand-items.ensures.rest)) begins;
+      filling = λ all begins. subst (λ (run : List ℕ). Filling all (points_reached c.args.walk (moves c.args.domain.multi (operand_words run))) c.args.lacks (λ prefix. c.args.scratch.now.items ≡ prefix)) (sym (ap chunks_rest given ∙ c.chunks-operand-items.ensures.rest)) begins;
     }
 
 pub returns-in_default-clause-fills : goal.returns-in_default-clause-fills
@@ -22,8 +21,7 @@ returns-in_default-clause-fills c =
     let inv = c.loop-operand.invariant in
     let steps = c.in-Some.ensures.steps in
     let cut = moves_chunk c.args.domain.multi _ _ _ _ inv.size (omega (arith, c.multi.ensures.value, c.multi.ensures.least)) steps.1.0 steps.1.1 steps.1.2 in
-    let out = sym (c.by.ensures ∙ ap (displaced_point c.loop-operand.at) c.multi_bytes.ensures) ∙ c.in_default.is in
-    λ all begins. filling_none _ _ _ _ (inv.filling all begins) (cons_if_all_none _ _ _ (reached_turn _ _ _ _ cut) out)
+    λ all begins. filling_none _ _ _ _ (inv.filling all begins) (moved_none _ c.loop-operand.walk _ _ _ _ cut (c.advance.ensures.point ∙ ap (displaced_point c.loop-operand.walk) c.multi_bytes.ensures) c.in_default.is)
 
 pub loop-operand-preserved : goal.loop-operand-preserved
 loop-operand-preserved c =
@@ -38,10 +36,10 @@ loop-operand-preserved c =
       space = omega (arith, inv.space, c.push.ensures.capacity);
       few = omega (arith, inv.few, less, c.push.ensures.upper_bound);
       memory = lacks_more c.push.result _ _ inv.memory c.is_err-full.ensures.value (λ e. inr (omega (arith, inv.few, inv.space, less, e))) c.push.ensures.full;
-      filling = λ all begins. filling_more _ _ _ c.in-Some-by.point _ _ _ _ (inv.filling all begins)
-          (cons_if_all_more _ _ _ _ (reached_turn _ _ _ _ cut) (sym (c.by.ensures ∙ ap (displaced_point c.loop-operand.at) c.multi_bytes.ensures) ∙ c.in-Some-by.is))
+      filling = λ all begins. filling_more _ _ _ c.in-Some-advance.point _ _ _ _ (inv.filling all begins)
+          (rw c.in-Some-advance.is at (moved _ _ _ _ _ _ cut (c.advance.ensures.point ∙ ap (displaced_point c.loop-operand.walk) c.multi_bytes.ensures) c.advance.ensures.place))
           (still_kept _ _)
-          (λ prefix e kept. pushed _ _ _ _ _ _ c.push.ensures.items c.is_err-full.ensures.value e ∙ ap (λ l. l ++ c.in-Some-by.point ∷ []) kept);
+          (λ prefix e kept. pushed _ _ _ _ _ _ c.push.ensures.items c.is_err-full.ensures.value e ∙ ap (λ l. l ++ c.in-Some-advance.point ∷ []) kept);
     }
 
 pub returns-clause-fills : goal.returns-clause-fills

@@ -1,28 +1,21 @@
-use Rattle.nap_draw.proofs.Common.{Filling, false, length, moves, operand_words, points_reached, ◌*◌, ◌+◌, ◌≡◌, ◌≤◌}
+use Rattle.nap_draw.proofs.Common.{moves, operand_words, points_reached, length, ◌≡◌}
+use Rattle.nap_draw.proofs.Decoding.{Threes}
 use Rattle.nap_draw.proofs.scratch.fill_steps_of_three.Given as goal
-
-abbrev pub invariant-loop-block : goal.invariant-loop-block
-invariant-loop-block l = record {
-  current : l.walk ≡ l.last;
-  vacant : l.scratch.cap ≡ 0;
-  places : length l.rest + 3 * l.points.len ≤ 3 * l.points.cap + 2;
-  few : l.points.len + length l.rest ≤ length l.fn.run;
-  space : l.points.cap ≡ l.fn.scratch.cap;
-  filling : Filling (points_reached l.fn.at (moves 3 (operand_words l.fn.run))) (points_reached l.last (moves 3 (operand_words l.rest))) false (λ prefix. l.points.items ≡ prefix);
-}
-
-abbrev pub decreases-loop-block : goal.decreases-loop-block
-decreases-loop-block l = length l.rest
 
 abbrev pub invariant-loop-rest : goal.invariant-loop-rest
 invariant-loop-rest l = record {
-  current : l.walk ≡ l.last;
   vacant : l.scratch.cap ≡ 0;
-  places : length l.rest + 3 * l.points.len ≤ 3 * l.points.cap + 2;
-  few : l.points.len + length l.rest ≤ length l.fn.run;
-  space : l.points.cap ≡ l.fn.scratch.cap;
-  filling : Filling (points_reached l.fn.at (moves 3 (operand_words l.fn.run))) (points_reached l.last (moves 3 (operand_words l.rest))) false (λ prefix. l.points.items ≡ prefix);
+  threes : Threes (points_reached l.fn.walk (moves 3 (operand_words l.fn.run))) (points_reached l.walk (moves 3 (operand_words l.rest))) l.fn.run l.rest l.points l.fn.scratch.cap;
 }
 
 abbrev pub decreases-loop-rest : goal.decreases-loop-rest
 decreases-loop-rest l = length l.rest
+
+abbrev pub invariant-loop-rest-2 : goal.invariant-loop-rest-2
+invariant-loop-rest-2 l = record {
+  vacant : l.scratch.cap ≡ 0;
+  threes : Threes (points_reached l.fn.walk (moves 3 (operand_words l.fn.run))) (points_reached l.walk (moves 3 (operand_words l.rest))) l.fn.run l.rest l.points l.fn.scratch.cap;
+}
+
+abbrev pub decreases-loop-rest-2 : goal.decreases-loop-rest-2
+decreases-loop-rest-2 l = length l.rest

@@ -1,7 +1,6 @@
 use Rattle.nap_draw.proofs.Common.{List, ap, arith, length, moves, multi_of, operand_words, point_at, refl, relative_spans, span_by, sym, ℕ, ◌∙◌, ◌≡◌, ◌≤◌}
 use Rattle.nap_draw.proofs.ByteRuns.{moves_chunk, moves_none}
-use Rattle.nap_draw.proofs.Decoding.{filling_begins, filling_more, filling_none, chunk_less, filled, held, held_more, still_kept, pushed, flat_none, flat_kept, paired_flat}
-use Rattle.nap_draw.proofs.Turns.{away_lacks, away_turn, cons_if_all_more, cons_if_all_none}
+use Rattle.nap_draw.proofs.Decoding.{away_lacks, away_turn, chunk_less, cons_if_all_more, cons_if_all_none, filled, filling_begins, filling_more, filling_none, flat_kept, flat_none, held, held_more, paired_flat, pushed, still_kept}
 use Rattle.nap_draw.proofs.scratch.pairs_into.Goals as goal
 
 pub returns-in_default-next-clause-fills : goal.returns-in_default-next-clause-fills
@@ -58,9 +57,3 @@ returns-clause-fills c =
 
 pub returns-clause-memory : goal.returns-clause-memory
 returns-clause-memory c = held _ _ _ _ _ _ c.loop-first.invariant.held c.memory_fault_if.ensures.err
-
-pub returns-in_default-next-clause-memory : goal.returns-in_default-next-clause-memory
-returns-in_default-next-clause-memory c = (c.loop-first.invariant.held.space, λ e. (let bad : ⊥ = cc in absurd bad))
-
-pub returns-in_default-span_by-clause-memory : goal.returns-in_default-span_by-clause-memory
-returns-in_default-span_by-clause-memory c = (c.loop-first.invariant.held.space, λ e. (let bad : ⊥ = cc in absurd bad))

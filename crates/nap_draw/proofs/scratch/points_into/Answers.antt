@@ -1,7 +1,6 @@
 use Rattle.nap_draw.proofs.Common.{[], ap, arith, point_at, points_at, sym, ◌++◌, ◌∙◌, ◌∷◌}
 use Rattle.nap_draw.proofs.ByteRuns.{moves_chunk, moves_none}
-use Rattle.nap_draw.proofs.Decoding.{filling_more, filling_none, chunk_less, filled, held, held_more, still_kept, pushed}
-use Rattle.nap_draw.proofs.Turns.{points_turn, cons_if_all_more, cons_if_all_none}
+use Rattle.nap_draw.proofs.Decoding.{chunk_less, cons_if_all_more, cons_if_all_none, filled, filling_more, filling_none, held, held_more, points_turn, pushed, still_kept}
 use Rattle.nap_draw.proofs.scratch.points_into.Goals as goal
 
 pub returns-in_default-clause-fills : goal.returns-in_default-clause-fills
@@ -33,6 +32,3 @@ returns-clause-fills c = filled _ _ _ _ _ _ c.loop-operand.invariant.filling (ap
 
 pub returns-clause-memory : goal.returns-clause-memory
 returns-clause-memory c = held _ _ _ _ _ _ c.loop-operand.invariant.held c.memory_fault_if.ensures.err
-
-pub returns-in_default-clause-memory : goal.returns-in_default-clause-memory
-returns-in_default-clause-memory c = (c.loop-operand.invariant.held.space, λ e. (let bad : ⊥ = cc in absurd bad))

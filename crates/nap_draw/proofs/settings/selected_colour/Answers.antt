@@ -1,23 +1,16 @@
-use Rattle.nap_draw.proofs.Common.{List, [], addresses, ap, append-nil, arith, chunks_rest, colour_of_base, map, operand_words, refl, selected_colour, single_of, sym, ℕ, ◌∙◌, ◌≡◌}
+use Rattle.nap_draw.proofs.Common.{List, [], ap, append-nil, arith, map, operand_words, refl, selected_colour, single_of, sym, ℕ, ◌∙◌, ◌≡◌}
 use Rattle.nap_list.specs.declared.attribute.Colour.TheVariants.{Front, Pair}
 use Rattle.nap_draw.proofs.ByteRuns.{addresses_none, only_operand, two_operands}
 use Rattle.nap_draw.proofs.settings.selected_colour.Goals as goal
 
 pub returns-in-Own : goal.returns-in-Own
-returns-in-Own c =
-    let none = addresses_none c.args.domain.single (chunks_rest c.chunks-addresses.result) c.in_default-next.ensures.steps.1.0 in
-    sym (ap (λ (run : List ℕ). selected_colour c.args.base (addresses c.args.domain.single (operand_words run))) (sym c.chunks-addresses.ensures.rest) ∙ ap (selected_colour c.args.base) none ∙ ap colour_of_base c.in-Own.is)
+returns-in-Own c = grind (arith, addresses_none)
 
 pub returns-in-Direct : goal.returns-in-Direct
-returns-in-Direct c =
-    let none = addresses_none c.args.domain.single (chunks_rest c.chunks-addresses.result) c.in_default-next.ensures.steps.1.0 in
-    sym (ap (λ (run : List ℕ). selected_colour c.args.base (addresses c.args.domain.single (operand_words run))) (sym c.chunks-addresses.ensures.rest) ∙ ap (selected_colour c.args.base) none ∙ ap colour_of_base c.in-Direct.is)
+returns-in-Direct c = grind (arith, addresses_none)
 
 pub returns-in-None : goal.returns-in-None
-returns-in-None c =
-    let steps = c.in-Some.ensures.steps in
-    let one = only_operand c.args.domain.single _ _ _ _ _ _ _ c.chunks-addresses.ensures.rest c.chunks-addresses.ensures.size c.from.ensures c.single-size.ensures.value c.single-size.ensures.least steps.1.0 steps.1.1 steps.1.2 c.in-None.ensures.steps.1.0 in
-    ap Front c.single_bytes-first.ensures ∙ sym (ap (λ (os : List (List ℕ)). selected_colour c.args.base (map single_of os)) one)
+returns-in-None c = grind (arith, only_operand)
 
 pub returns-in-Some-next : goal.returns-in-Some-next
 returns-in-Some-next c =

@@ -1,56 +1,64 @@
-use Rattle.nap_lines.proofs.Common.{Coordinates, List, ap, append-nil, append_assoc, arith, codes, length, length-append, line_front, lines_with, point_text, refl, sym, take, ℕ, ◌++◌, ◌+◌, ◌∙◌, ◌≡◌}
-use Rattle.nap_lines.proofs.BatchLemmas.{appended, grown, kept, text_goes, goes_first, goes_line, continues}
+use Rattle.nap_lines.proofs.Common.{Coordinates, Entry, List, [], ap, append-nil, append_assoc, arith, codes, drop, ink_of, ink_text, length, length-append, line_front, lines, point_text, polyline_entries, refl, rules, sym, take, ℕ, ◌++◌, ◌+◌, ◌∙◌, ◌∷◌, ◌≡◌}
+use Rattle.nap_lines.proofs.BatchLemmas.{ended, kept, line_line, next_line, one_entry, text_goes}
 use Rattle.nap_lines.proofs.batch.write_line_lines.Goals as goal
 
 -- the beginning of a Line's line, pushed part by part
 made_front : (from to : Coordinates) (end pointed spaced started named kept : List ℕ) → pointed ≡ point_text to ++ end → spaced ≡ codes " " ++ pointed → started ≡ kept ++ spaced →
     named ≡ codes "LINE " ++ started → kept ≡ point_text from → named ≡ line_front from to ++ end
-made_front from to end pointed spaced started named kept point space start name is =
-    name
-    ∙ ap (λ (bytes : List ℕ). codes "LINE " ++ bytes) (start ∙ ap (λ (kept : List ℕ). kept ++ spaced) is ∙ ap (λ (bytes : List ℕ). point_text from ++ bytes) (space ∙ ap (λ (bytes : List ℕ). codes " " ++ bytes) point))
-    ∙ parts (codes "LINE ") (point_text from) (codes " ") (point_text to) end
-  where
-    parts : (l p s q e : List ℕ) → l ++ (p ++ (s ++ (q ++ e))) ≡ (l ++ p ++ s ++ q) ++ e
-    parts l p s q e = simp append_assoc
+made_front from to end pointed spaced started named kept point space start name is = grind (arith, kept, append_assoc)
 
 pub loop-to-init : goal.loop-to-init
-unfolding lines_with
-loop-to-init c = record { front = point_text c.args.from; buffer = c.push_point_copied-kept.ensures.text; written = refl; at = c.args.from; kept = c.push_point_copied-kept.ensures.kept; few = c.push_point_copied-kept.ensures.few; size = omega arith; capacity = omega arith; text = sym (append-nil c.args.text.now.items); goes = goes_first c.args.buffer.now c.args.from }
+loop-to-init c =
+    let end = rw c.ink.ensures at (ended _ _ _ (codes " " ++ ink_text c.ink.result) c.push_ink_part.ensures.text c.push.ensures.text c.clear.ensures) in
+    record {
+      front = codes "LINE " ++ point_text c.args.from;
+      buffer = c.push-2.ensures.text ∙ ap (λ (bytes : List ℕ). codes "LINE " ++ bytes) (c.push_point_copied-kept.ensures.text ∙ ap (λ (bytes : List ℕ). point_text c.args.from ++ bytes) end);
+      written = refl;
+      at = c.args.from;
+      kept = c.push_point_copied-kept.ensures.kept;
+      short = c.push_point_copied-kept.ensures.few;
+      few = omega arith;
+      capacity = omega arith;
+      text = sym (append-nil c.args.text.now.items);
+      rest = refl;
+    }
 
 pub keep_last-requires-clause-within : goal.keep_last-requires-clause-within
-keep_last-requires-clause-within c =
-    let front = c.loop-to.invariant.front in
-    omega (arith, ap length c.loop-to.invariant.buffer, length-append front c.args.buffer.now, c.len-end.ensures.count)
+keep_last-requires-clause-within c = grind (arith, ended, length-append)
 
 pub keep_last-requires-clause-utf8 : goal.keep_last-requires-clause-utf8
-keep_last-requires-clause-utf8 c =
-    rw (kept c.loop-to.buffer c.loop-to.invariant.front c.args.buffer.now c.len-end.result c.loop-to.invariant.buffer c.len-end.ensures.count) c.len-end.ensures.utf8
+keep_last-requires-clause-utf8 c = grind (arith, ended, kept)
+
+pub copy_of_first-name-requires-clause-utf8 : goal.copy_of_first-name-requires-clause-utf8
+copy_of_first-name-requires-clause-utf8 c = rw (c.push-2.ensures.text) (search rules)
 
 pub loop-to-preserved : goal.loop-to-preserved
 loop-to-preserved c =
     let invariant = c.loop-to.invariant in
-    let end = c.args.buffer.now in
+    let d = c.args.drawing.now in
+    let end : List ℕ = codes " " ++ ink_text (ink_of d) ++ 10 ∷ [] in
+    let ends = rw c.ink.ensures at (ended _ _ _ (codes " " ++ ink_text c.ink.result) c.push_ink_part.ensures.text c.push.ensures.text c.clear.ensures) in
     let at = invariant.at in
     let to = c.to-item.result in
     let i = c.loop-to.to-index in
     let points = c.args.points.now in
-    let buffer = made_front at to c.keep_last.new.self c.push_point_copied-next.new.self c.push.new.self c.push_copied.new.self c.push_line_name.new.self c.loop-to.kept c.push_point_copied-next.ensures.text c.push.ensures.text c.push_copied.ensures.text c.push_line_name.ensures.text invariant.kept ∙ ap (λ (bytes : List ℕ). line_front at to ++ bytes) (c.keep_last.ensures ∙ kept c.loop-to.buffer invariant.front end c.len-end.result invariant.buffer c.len-end.ensures.count) in
-    let line = c.as_slice.ensures.bytes ∙ buffer in
-    let added = grown c.extend_from_slice.result c.is_err.result _ _ _ c.is_err.ensures.value c.if-is_err.false c.extend_from_slice.ensures.len in
+    let list = polyline_entries d c.args.from points in
+    let buffer =
+    made_front at to c.keep_last.new.self c.push_point_copied-next.new.self c.push-in-loop-to.new.self c.push_copied.new.self c.push_copied-in-loop-to.new.self c.loop-to.kept c.push_point_copied-next.ensures.text
+    c.push-in-loop-to.ensures.text c.push_copied.ensures.text (rw (c.copy_of_first-name.ensures, c.push-2.ensures.text) at c.push_copied-in-loop-to.ensures.text) invariant.kept
+    ∙ ap (λ (bytes : List ℕ). line_front at to ++ bytes) (c.keep_last.ensures ∙ kept c.loop-to.buffer invariant.front end c.len-end.result invariant.buffer (c.len-end.ensures.count ∙ ap length ends)) in
+    let line = c.as_slice.ensures.bytes ∙ buffer ∙ line_line (ink_of d) at to in
+    let one = one_entry list (polyline_entries d to (drop (i + 1) points)) (Entry.Line at to (ink_of d)) i (next_line d at to points list i (omega arith) c.to-item.is invariant.rest) in
     record {
       front = line_front at to;
       buffer = buffer;
       written = ap (λ n. n + 1) invariant.written;
-      size = omega (arith, invariant.size, added, c.as_slice.ensures.few);
+      few = omega (arith, invariant.few, c.in-Ok.ensures.len, c.as_slice.ensures.few);
       capacity = omega (arith, invariant.capacity, c.extend_from_slice.ensures.capacity);
       at = to;
       kept = c.push_point_copied-next.ensures.kept;
-      few = c.push_point_copied-next.ensures.few;
-      text =
-          text_goes c.args.text.now.items c.loop-to.text.items c.extend_from_slice.new.self.items (lines_with end c.args.from (take i points))
-          (lines_with end c.args.from (take (i + 1) points)) (line_front at to ++ end) invariant.text
-          (appended c.extend_from_slice.result c.is_err.result c.extend_from_slice.new.self.items c.loop-to.text.items c.as_slice.result.now c.extend_from_slice.ensures.items c.is_err.ensures.value c.if-is_err.false
-          ∙ ap (λ (bytes : List ℕ). c.loop-to.text.items ++ bytes) line)
-          (goes_line end c.args.from at to points i (omega arith) c.to-item.is invariant.goes);
-      goes = continues end c.args.from at to points i (omega arith) c.to-item.is invariant.goes;
+      short = c.push_point_copied-next.ensures.few;
+      text = text_goes c.args.text.now.items c.loop-to.text.items c.extend_from_slice.new.self.items (lines (take i list)) (lines (take (i + 1) list)) _ invariant.text
+          (c.in-Ok.ensures.items ∙ ap (λ (bytes : List ℕ). c.loop-to.text.items ++ bytes) line) one.0;
+      rest = one.1;
     }

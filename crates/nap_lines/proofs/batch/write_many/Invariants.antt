@@ -1,4 +1,4 @@
-use Rattle.nap_lines.proofs.Common.{List, char_front, flat_map, length, line_limit, take, text_byte_front, vec_capacity, vec_len, ℕ, ◌*◌, ◌++◌, ◌+◌, ◌-◌, ◌≡◌, ◌≤◌}
+use Rattle.nap_lines.proofs.Common.{List, flat_map, length, line_limit, take, text_byte_front, vec_capacity, vec_len, ℕ, ◌*◌, ◌++◌, ◌+◌, ◌-◌, ◌≡◌, ◌≤◌}
 use Rattle.nap_lines.proofs.BatchLemmas.{char_start}
 use Rattle.nap_lines.proofs.BlockLemmas.{coded}
 use Rattle.nap_lines.proofs.batch.write_many.Given as goal
@@ -8,7 +8,8 @@ invariant-loop-written l = record {
   within : l.written ≤ length l.codes;
   few : vec_len l.text ≤ vec_len l.fn.text + line_limit * l.written;
   capacity : vec_capacity l.fn.text ≤ vec_capacity l.text;
-  buffer : l.buffer ≡ char_front l.fn.set 0 ++ l.fn.buffer;
+  front : List ℕ;
+  buffer : l.buffer ≡ front ++ l.fn.buffer;
   digits : List ℕ;
   rest : List ℕ;
   ready : length digits ≡ l.ready;

@@ -1,4 +1,4 @@
-use Rattle.nap_lines.proofs.Common.{List, flat_map, line_limit, point_front, take, vec_capacity, vec_len, ℕ, ◌*◌, ◌++◌, ◌+◌, ◌≡◌, ◌≤◌}
+use Rattle.nap_lines.proofs.Common.{List, ℕ, line_limit, lines, map, point_entry, take, vec_capacity, vec_len, ◌*◌, ◌++◌, ◌+◌, ◌≡◌, ◌≤◌}
 use Rattle.nap_lines.proofs.batch.write_point_lines.Given as goal
 
 abbrev pub invariant-loop-at : goal.invariant-loop-at
@@ -8,5 +8,5 @@ invariant-loop-at l = record {
   written : l.written ≡ l.at-index;
   few : vec_len l.text ≤ vec_len l.initial.text + line_limit * l.at-index;
   capacity : vec_capacity l.initial.text ≤ vec_capacity l.text;
-  text : l.text.items ≡ l.initial.text.items ++ flat_map (λ at. point_front at ++ l.initial.buffer) (take l.at-index l.points);
+  text : l.text.items ≡ l.initial.text.items ++ lines (take l.at-index (map (point_entry l.drawing) l.points));
 }

@@ -1,10 +1,9 @@
-use Rattle.nap_lines.proofs.Common.{AppendsText, List, [], entry_of_shape, line, subst, ℕ, ◌++◌, ◌∷◌}
+use Rattle.nap_lines.proofs.Common.{AppendsText, List, [], arith, entry_of_shape, line, subst, ℕ, ◌++◌, ◌∷◌}
 use Rattle.nap_lines.proofs.ShapeLemmas.{appends_more, both_appended, drawn_line, text_kept}
 use Rattle.nap_lines.proofs.line.write_shape_parts.Goals as goal
 
 pub returns-in_err-write_points-clause-appends : goal.returns-in_err-write_points-clause-appends
-returns-in_err-write_points-clause-appends c =
-    text_kept c.args.text.now.items c.write_shape_name.new.text.items c.write_points.new.text.items _ (line (entry_of_shape c.args.shape.now) ++ 10 ∷ []) c.from_residual-in_err-write_points.result c.in_ok-write_shape_name.ensures.appends.0 c.in_err-write_points.ensures.appends c.from_residual-in_err-write_points.ensures.0
+returns-in_err-write_points-clause-appends c = grind (arith, text_kept)
 
 pub returns-in_err-write_points-2-clause-appends : goal.returns-in_err-write_points-2-clause-appends
 returns-in_err-write_points-2-clause-appends c =

@@ -19,21 +19,13 @@ loop-index-preserved c =
       fit = fit_more start prefix e before.fit fits;
     })
 
-pub returns-then-not-fits-clause-ok : goal.returns-then-not-fits-clause-ok
-returns-then-not-fits-clause-ok c =
+pub returns-then-not-fits : goal.returns-then-not-fits
+returns-then-not-fits c =
     let es = c.args.entries.now in
     let at = c.loop-index in
-    let e = c.index-entries-index.result in
-    let misfit : Fits at.state e → ⊥ = λ fits. true≢false (sym (c.fits.ensures.1 fits) ∙ c.if-not-fits.true) in
-    not_legal es at.index (misfit_at es at.index e at.state c.loop-index-test.true c.index-entries-index.is at.invariant.state at.invariant.fit misfit)
-
-pub returns-then-not-fits-clause-err : goal.returns-then-not-fits-clause-err
-returns-then-not-fits-clause-err c =
-    let es = c.args.entries.now in
-    let at = c.loop-index in
-    let e = c.index-entries-index.result in
-    let misfit : Fits at.state e → ⊥ = λ fits. true≢false (sym (c.fits.ensures.1 fits) ∙ c.if-not-fits.true) in
-    only_break es at.index (misfit_at es at.index e at.state c.loop-index-test.true c.index-entries-index.is at.invariant.state at.invariant.fit misfit)
+    let misfit : Fits at.state c.index-entries-index.result → ⊥ = λ fits. true≢false (sym (c.fits.ensures.1 fits) ∙ c.if-not-fits.true) in
+    let breaks = misfit_at es at.index c.index-entries-index.result at.state c.loop-index-test.true c.index-entries-index.is at.invariant.state at.invariant.fit misfit in
+    record { ok = not_legal es at.index breaks; err = only_break es at.index breaks }
 
 pub returns-then-is_some-clause-err : goal.returns-then-is_some-clause-err
 returns-then-is_some-clause-err c =

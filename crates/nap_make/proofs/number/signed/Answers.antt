@@ -1,12 +1,12 @@
-use Rattle.nap_make.proofs.Common.{arith}
-use Rattle.nap_make.proofs.NumberLemmas.{after_minus, no_sign, with_minus, without_minus}
+use Rattle.nap_make.proofs.Common.{None, arith}
+use Rattle.nap_make.proofs.NumberLemmas.{after_minus, low_pos, no_sign, with_minus, without_minus}
 use Rattle.nap_make.proofs.number.signed.Goals as goal
 
 pub returns-then-bytes-eq0 : goal.returns-then-bytes-eq0
 returns-then-bytes-eq0 c = no_sign c.args.bytes.now (omega (arith, c.if-bytes-eq0.true))
 
-pub returns-then-bytes-ne45 : goal.returns-then-bytes-ne45
-returns-then-bytes-ne45 c = without_minus c.args.bytes.now c.positive.result (λ is. c.if-bytes-ne45.true is) c.positive.ensures
+pub returns-in_err-size : goal.returns-in_err-size
+returns-in_err-size c = rw (c.from_residual.ensures) (without_minus c.args.bytes.now None (λ is. c.if-bytes-ne45.true is) (λ n fits is. c.in_err-size.ensures n (omega (arith, low_pos n fits)) is))
 
 pub returns : goal.returns
 returns c =

@@ -5,8 +5,8 @@ use Rattle.nap_make.proofs.number.three_words.Goals as goal
 pub returns-in_err-first : goal.returns-in_err-first
 returns-in_err-first c = rw (c.from_residual.ensures) (no_byte word_triple c.in_err-first.ensures)
 
-pub returns-in_err-first-2 : goal.returns-in_err-first-2
-returns-in_err-first-2 c = rw (c.from_residual-in_err-first-2.ensures) (no_first word_triple c.in_ok-first.ensures c.in_err-first-2.ensures)
+pub returns-in_err-word : goal.returns-in_err-word
+returns-in_err-word c = rw (c.from_residual-in_err-word.ensures) (no_first word_triple c.in_ok-first.ensures c.in_err-word.ensures)
 
-pub returns-in_err-others : goal.returns-in_err-others
-returns-in_err-others c = rw (c.from_residual-in_err-others.ensures) (no_second word_triple c.in_ok-first.ensures c.in_err-others.ensures)
+pub returns-in_err-two_words : goal.returns-in_err-two_words
+returns-in_err-two_words c = rw (c.from_residual-in_err-two_words.ensures) (no_second word_triple c.in_ok-first.ensures c.in_err-two_words.ensures)

@@ -5,8 +5,8 @@ use Rattle.nap_make.proofs.number.two_words.Goals as goal
 pub returns-in_err-first : goal.returns-in_err-first
 returns-in_err-first c = rw (c.from_residual.ensures) (no_byte word_pair c.in_err-first.ensures)
 
-pub returns-in_err-first-2 : goal.returns-in_err-first-2
-returns-in_err-first-2 c = rw (c.from_residual-in_err-first-2.ensures) (no_first word_pair c.in_ok-first.ensures c.in_err-first-2.ensures)
+pub returns-in_err-word : goal.returns-in_err-word
+returns-in_err-word c = rw (c.from_residual-in_err-word.ensures) (no_first word_pair c.in_ok-first.ensures c.in_err-word.ensures)
 
-pub returns-in_err-second : goal.returns-in_err-second
-returns-in_err-second c = rw (c.from_residual-in_err-second.ensures) (no_second word_pair c.in_ok-first.ensures c.in_err-second.ensures)
+pub returns-in_err-word-2 : goal.returns-in_err-word-2
+returns-in_err-word-2 c = rw (c.from_residual-in_err-word-2.ensures) (no_second word_pair c.in_ok-first.ensures c.in_err-word-2.ensures)

@@ -8,7 +8,7 @@ returns-in-Ok c =
     let works = sym c.failed.ensures ∙ c.if-failed.false in
     let empty = ap (λ (u : WritingTo _). u.writer.items) c.new-2.ensures ∙ c.new.ensures.items in
     let made = text_written _ c.new-2.result c.new-sink.result c.put_lines-sink.result.0 c.new-sink.ensures works (λ u. u.writer.items) (λ u. refl) empty h.0.entries h.0.kept.took in
-    let inner : c.into_inner-text.result.items ≡ c.close.result.writer.items = cc c.into_inner-text.ensures in
+    let inner : c.into_inner.result.items ≡ c.close.result.writer.items = cc c.into_inner.ensures in
     (record { entries = h.0.entries; are = h.0.are; text_is = inner ∙ (ap (λ (u : WritingTo _). u.writer.items) c.close.ensures ∙ made) }, h.1)
 
 pub returns-in-Err : goal.returns-in-Err

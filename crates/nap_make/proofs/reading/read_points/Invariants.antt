@@ -2,8 +2,8 @@ use Rattle.nap_make.proofs.Common.{length}
 use Rattle.nap_make.proofs.LineLemmas.{HasPointsSo}
 use Rattle.nap_make.proofs.reading.read_points.Given as goal
 
-abbrev pub invariant-loop-rest : goal.invariant-loop-rest
-invariant-loop-rest l = HasPointsSo l.bytes l.points l.rest
+abbrev pub invariant-loop-word : goal.invariant-loop-word
+invariant-loop-word l = HasPointsSo l.bytes l.points l.rest
 
-abbrev pub decreases-loop-rest : goal.decreases-loop-rest
-decreases-loop-rest l = length l.rest
+abbrev pub decreases-loop-word : goal.decreases-loop-word
+decreases-loop-word l = length l.rest

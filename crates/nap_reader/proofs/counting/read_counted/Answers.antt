@@ -1,5 +1,4 @@
-use Rattle.nap_reader.proofs.{made, cause_of, refl, refused_alike, Some}
-use Rattle.nap_reader.proofs.Common.{zero-add}
+use Rattle.nap_reader.proofs.{made, cause_of, refl, refused_alike, Some, zero-add}
 use Rattle.nap_reader.proofs.counting.read_counted.Goals as goal
 
 pub returns-in-Ok : goal.returns-in-Ok

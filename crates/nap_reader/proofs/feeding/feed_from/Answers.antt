@@ -1,5 +1,4 @@
-use Rattle.nap_reader.proofs.{Consumes-kept, Consumes-nil, Err, Ok, [], append-nil, arith, err_from_is_err_and, feeds, gives_more, inl, inr, or-false, or-true, refl, sym, take, ◌++◌, ◌∙◌}
-use Rattle.nap_reader.proofs.Common.{FeedFault}
+use Rattle.nap_reader.proofs.{Consumes-kept, Consumes-nil, Err, Ok, [], append-nil, arith, err_from_is_err_and, feeds, gives_more, inl, inr, or-false, or-true, refl, sym, take, ◌++◌, ◌∙◌, FeedFault}
 use Rattle.nap_reader.proofs.feeding.feed_from.Goals as goal
 
 -- a read failed

@@ -15,8 +15,7 @@ loop-at-init c =
 
 pub returns-then-others-ne0-2 : goal.returns-then-others-ne0-2
 returns-then-others-ne0-2 c =
-    let ended = in_block c.args.least 32 c.args.piece.now c.loop-at.at (omega arith) _ c.others_in-others.ensures (omega arith) (omega arith) in
-    omega (arith, ended, c.loop-at.invariant.0)
+    omega (arith, (in_block c.args.least 32 c.args.piece.now c.loop-at.at (omega arith) _ c.others_in-others.ensures (omega arith) (omega arith)), c.loop-at.invariant.0)
 
 pub loop-at-preserved : goal.loop-at-preserved
 loop-at-preserved c =

@@ -1,5 +1,4 @@
-use Rattle.nap_reader.proofs.{[], ap, arith, broke_off, cause_of, inl, inr, memory_fault, refl, refused_early, sink_of}
-use Rattle.nap_reader.proofs.Common.{HasMemory, Promise}
+use Rattle.nap_reader.proofs.{[], ap, arith, broke_off, cause_of, inl, inr, memory_fault, refl, refused_early, sink_of, HasMemory, Promise}
 use Rattle.nap_reader.proofs.twice.read_twice.Goals as goal
 
 -- the stream is refused

@@ -19,8 +19,7 @@ returns-in_err-end-clause-reads g c =
     let end = c.in_err-end.ensures in
     let live = c.in_ok-feed.ensures.answered in
     let e = err_from_is_err_and c.from_residual-in_err-end.result c.from_residual-in_err-end.ensures.1 in
-    rw (e.1, e.2) (λ s begun.
-    (let has_read = c.feed.ensures.has_read s [] begun in
+    rw (e.1, e.2) (λ s begun. (let has_read = c.feed.ensures.has_read s [] begun in
     rw c.feed.ensures.budget at (ends_at_end g.S.Sink s (budget_of c.feed.new.self) (sink_of c.end.new.self) c.in_err-end.field-0.0 (end.failed live) p (leads_unrefused (has_read.continues live)) (λ own. (end.refused own s p has_read).0)
     (λ broke. end.breaks live broke s p has_read))))
 

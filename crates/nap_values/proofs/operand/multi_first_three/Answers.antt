@@ -1,11 +1,10 @@
-use Rattle.nap_values.proofs.Common.{HoldsWords, ap, bit_and, multi_of, subst, sym, value_of, words_in, ◌∙◌}
+use Rattle.nap_values.proofs.Common.{ap, bit_and, multi_of, value_of, words_in, ◌∙◌}
 use Rattle.nap_values.proofs.OperandWordLemmas.{kept_holds, kept_spells}
 use Rattle.nap_values.proofs.operand.multi_first_three.Goals as goal
 
 pub new-requires : goal.new-requires
 unfolding value_of
-new-requires c =
-    subst (λ n. HoldsWords (bit_and n 0x3F3F_3F00_0000_0000)) (sym c.from_be_bytes.ensures) (kept_holds 3 c.args.block.now c.fits-block c.told-block)
+new-requires c = rw c.from_be_bytes.ensures (kept_holds 3 c.args.block.now c.fits-block c.told-block)
 
 pub returns : goal.returns
 unfolding value_of

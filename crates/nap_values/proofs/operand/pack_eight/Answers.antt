@@ -1,11 +1,10 @@
-use Rattle.nap_values.proofs.Common.{HoldsWords, ap, bit_and, refl, rules, subst, sym, value_of, words_in, ◌∙◌}
+use Rattle.nap_values.proofs.Common.{ap, bit_and, refl, rules, value_of, words_in, ◌∙◌}
 use Rattle.nap_values.proofs.OperandWordLemmas.{kept_holds, kept_all}
 use Rattle.nap_values.proofs.operand.pack_eight.Goals as goal
 
 pub new-requires : goal.new-requires
 unfolding value_of
-new-requires c =
-    subst (λ n. HoldsWords (bit_and n 0x3F3F_3F3F_3F3F_3F3F)) (sym c.from_be_bytes.ensures) (kept_holds 8 c.args.bytes (search rules) (search rules))
+new-requires c = rw c.from_be_bytes.ensures (kept_holds 8 c.args.bytes (search rules) (search rules))
 
 pub returns : goal.returns
 unfolding value_of

@@ -5,6 +5,4 @@ use Rattle.nap_values.proofs.operand.put_grb.Goals as goal
 pub returns : goal.returns
 unfolding grb_bytes
 returns c =
-    let words = c.words.ensures in
-    c.put_words.ensures
-    ∙ ap operand_bytes (words_of_colour c.words.result words.words _ _ _ words.g words.r words.b)
+    c.put_words.ensures ∙ ap operand_bytes (words_of_colour _ c.words.ensures.words _ _ _ c.words.ensures.g c.words.ensures.r c.words.ensures.b)

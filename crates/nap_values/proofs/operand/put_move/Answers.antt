@@ -5,5 +5,4 @@ use Rattle.nap_values.proofs.operand.put_move.Goals as goal
 pub returns : goal.returns
 unfolding move_bytes
 returns c =
-    c.put_words.ensures
-    ∙ ap operand_bytes (words_of_move c.words.result c.words.ensures.words _ _ c.words.ensures.x c.words.ensures.y)
+    c.put_words.ensures ∙ ap operand_bytes (words_of_move _ c.words.ensures.words _ _ c.words.ensures.x c.words.ensures.y)

@@ -5,5 +5,4 @@ use Rattle.nap_values.proofs.operand.put_point.Goals as goal
 pub returns-clause-bytes : goal.returns-clause-bytes
 unfolding point_bytes
 returns-clause-bytes c =
-    c.put_words.ensures
-    ∙ ap operand_bytes (words_of_point c.words.result c.words.ensures.words _ _ c.words.ensures.x c.words.ensures.y)
+    c.put_words.ensures ∙ ap operand_bytes (words_of_point _ c.words.ensures.words _ _ c.words.ensures.x c.words.ensures.y)

@@ -4,7 +4,7 @@ use Rattle.std.proofs.option.Made.{Some-of, none_of}
 use Rattle.std.specs.contracts.alloc.Global as heap
 use Rattle.std.proofs.alloc.Global.TheLaws as heap_laws
 use Rattle.std.proofs.ResultValues.{and_tt}
-use Rattle.nap_c.proofs.WalkNames.{◌≡◌, List, [], ◌∷◌, ◌++◌, refl, sym, ap, ◌∙◌, subst, lit<, Val, vptr, vcons, vnil, SProp, ent, emp, id⊢, ftrue, WpFn, ‵, raw, ◌⊛◌, at_ret, ◌$◌, ◌∵◌, !, qed, by, move, keep, split, fsplit3, fjoin, suffices, rewrite, use0, use1, stop, fld, lit, of_opd, bin, no_more, and_then, first, branches, exec, returns, enter, alloc_all, pass_all, free_all, look_at, get, get_in, sets, sets_last, env, agg, sub, whole, fact, fact_i, tables, yes, RattleType, owns, Ptr, block_ptr, null_ptr, ptr_val, tests_null, layout, Slot, types_at, type_at, plain, nothing, Stays, stay_dropped, walk_of, Goes-dropped, None, Some, after, Good, one, proved_at, leaves, ghosts}
+use Rattle.nap_c.proofs.Common.{ !, Goes-dropped, Good, List, None, Ptr, RattleType, SProp, Slot, Some, Stays, Val, WpFn, [], after, agg, alloc_all, and_then, ap, at_ret, bin, block_ptr, branches, by, emp, ent, enter, env, exec, fact, fact_i, first, fjoin, fld, free_all, fsplit3, ftrue, get, get_in, ghosts, id⊢, keep, layout, leaves, lit, lit<, look_at, move, no_more, nothing, null_ptr, of_opd, one, owns, pass_all, plain, proved_at, ptr_val, qed, raw, refl, returns, rewrite, sets, sets_last, split, stay_dropped, stop, sub, subst, suffices, sym, tables, tests_null, type_at, types_at, use0, use1, vcons, vnil, vptr, walk_of, whole, yes, ‵, ◌$◌, ◌++◌, ◌∙◌, ◌∵◌, ◌∷◌, ◌≡◌, ◌⊛◌}
 use Rattle.nap_c.specs.contracts.pieces.Check as check
 use Rattle.nap_c.specs.contracts.checking.Checking as checking
 use Rattle.nap_c.proofs.LooseLemmas.{Loose, both, loose_good, loose_in}

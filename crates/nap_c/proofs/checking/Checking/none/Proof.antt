@@ -1,5 +1,5 @@
 -- `none` owns nothing at null.
-use Rattle.nap_c.proofs.WalkNames.{◌≡◌, [], ◌∷◌, refl, lit<, Val, SProp, emp, ftrue, ‵, raw, ◌⊛◌, ◌$◌, ◌∵◌, !, qed, by, keep, split, use0, lit, no_more, and_then, returns, enter, alloc_all, pass_all, free_all, look_at, sets, agg, fact, fact_i, tables, owns, null_ptr, ptr_val, types_at, nothing, walk_of, proved_at, leaves, Option, None}
+use Rattle.nap_c.proofs.Common.{ !, None, Option, SProp, Val, [], agg, alloc_all, and_then, by, emp, enter, fact, fact_i, free_all, ftrue, keep, leaves, lit, lit<, look_at, no_more, nothing, null_ptr, owns, pass_all, proved_at, ptr_val, qed, raw, refl, returns, sets, split, tables, types_at, use0, walk_of, ‵, ◌$◌, ◌∵◌, ◌∷◌, ◌≡◌, ◌⊛◌}
 use Rattle.nap_c.proofs.KeptLemmas.{Known, alone, checking_in, none_kept}
 use Rattle.nap_c.specs.contracts.checking.Checking.none as f
 use Rattle.nap_c.specs.contracts.checking.Checking.none.Key.{name as #self}

@@ -1,11 +1,9 @@
 -- `from_box` takes the box apart.
 use mir.Raw.{raw as bare}
-use types.Logic.{sem}
-use denote.Builtin.{RawPtr}
 use denote.Struct.Tuple.{Tuple}
 use Rattle.std.specs.Box.Ownership.{box_owns}
 use Rattle.std.proofs.BoxSteps.Form as box
-use Rattle.nap_c.proofs.WalkNames.{◌≡◌, List, [], ◌∷◌, ◌++◌, refl, sym, ap, ◌∙◌, subst, a_type, dcons, dnil, Val, vptr, vstruct, of_list, inst_fn, SProp, ent, emp, never, id⊢, fst∗, ftrue, fsep, flft, WpFn, ‵, raw, ◌⊛◌, some, later, ◌$◌, ◌∵◌, !, qed, by, move, keep, drop, split, split3, join, fsplit, fjoin, fpick, pick, suffices, use0, use1, await, rewrite, feq_l, stop, fld, of_opd, no_more, and_then, returns, enter, alloc_all, pass_all, free_all, look_at, get, get_in, sets, lands_as, agg, sub, whole, fact, fact_i, tables, no, RattleType, owns, types_at, plain, Ptr, block_ptr, null_ptr, ptr_val, in_a_block, nothing, only, heard, param, layout, bounded, param_laws, triple_of, calls_at, Stays, stay_dropped, walk_of, Goes-blank, handle_tells, framed, box_out, box_in, proved_at, leaves}
+use Rattle.nap_c.proofs.Common.{ !, Goes-blank, List, Ptr, RattleType, RawPtr, SProp, Stays, Val, WpFn, [], a_type, agg, alloc_all, and_then, ap, await, block_ptr, bounded, box_in, box_out, by, calls_at, dcons, dnil, drop, emp, ent, enter, fact, fact_i, feq_l, fjoin, fld, flft, fpick, framed, free_all, fsep, fsplit, fst∗, ftrue, get, get_in, handle_tells, heard, id⊢, in_a_block, inst_fn, join, keep, lands_as, later, layout, leaves, look_at, move, never, no, no_more, nothing, null_ptr, of_list, of_opd, only, owns, param, param_laws, pass_all, pick, plain, proved_at, ptr_val, qed, raw, refl, returns, rewrite, sem, sets, some, split, split3, stay_dropped, stop, sub, subst, suffices, sym, tables, triple_of, types_at, use0, use1, vptr, vstruct, walk_of, whole, ‵, ◌$◌, ◌++◌, ◌∙◌, ◌∵◌, ◌∷◌, ◌≡◌, ◌⊛◌}
 use Rattle.nap_c.proofs.LooseLemmas.{both, loose_good, loose_in}
 use Rattle.std.specs.contracts.boxed.Box.into_raw_with_allocator as callee
 use Rattle.std.proofs.boxed.Box.into_raw_with_allocator.Met.{met}

@@ -1,30 +1,32 @@
-use Rattle.nap_canon.proofs.Common.{Ok, PutsSome, arith, batch_entries, canon_sink_model, drop, length, length-drop, put_begins, refl, took_none, ◌+◌, ◌≤◌}
-use Rattle.nap_canon.proofs.sinks.PutLemmas.{broke_after, halts_within, part_put, current_after_part, works_after}
+use Rattle.nap_canon.proofs.Common.{Canonical, EachIsCurrent, Err, Ok, Putting, PutsSome, arith, batch_entries, canon_sink_model, drop, false, length, length-drop, put_begins, refl, subst, sym, took_none, ◌+◌, ◌≡◌, ◌≤◌}
+use Rattle.nap_canon.proofs.sinks.PutLemmas.{broke_after, halts_within, next_put, part_put, current_after_part, sink_of_writer, works_after}
 use Rattle.nap_canon.proofs.canon_sink.CanonSink.put_current.Goals as goal
 
 pub loop-taken-init : goal.loop-taken-init
 loop-taken-init g c =
     let o = g.O.Outlet in
     let s = c.args.self.now in
+    let rest = drop c.args.first (batch_entries c.args.batch.now) in
     record {
       from = omega arith;
       few = c.requires.few;
-      putting = put_begins (canon_sink_model o) s (drop c.args.first (batch_entries c.args.batch.now)) (took_none o s);
-      current = c.requires.current;
-      works = c.requires.works;
+      putting = subst (λ (t : Canonical _). Putting (canon_sink_model o) s t rest rest) (sym c.self.view_is) (put_begins (canon_sink_model o) s rest (took_none o s));
+      current = subst (λ (t : Canonical _). EachIsCurrent t.state rest) (sym c.self.view_is) c.requires.current;
+      works = subst (λ (t : Canonical _). o.failed t.outlet ≡ false) (sym c.self.view_is) c.requires.works;
     }
 
 pub loop-taken-preserved : goal.loop-taken-preserved
 loop-taken-preserved g c =
     let o = g.O.Outlet in
     let s = c.args.self.now in
-    let t = c.loop-taken.self in
-    let u = c.put_one_write.new.self in
+    let w = c.loop-taken.self-inside.writer in
+    let t = sink_of_writer w in
+    let u = sink_of_writer c.put_more.new.self in
     let list = batch_entries c.args.batch.now in
     let taken = c.loop-taken.taken in
     let more = c.in-Ok.more in
     let inv = c.loop-taken.invariant in
-    let some : PutsSome o (drop taken list) t u (Ok more) = c.in-Ok.ensures in
+    let some : PutsSome o (drop taken list) t u (Ok more) = next_put o w c.put_more.new.self t refl inv.works (drop taken list) (Ok more) c.in-Ok.ensures in
     record {
       from = omega (arith, inv.from);
       few = omega (arith, some.1, inv.few, length-drop taken list);
@@ -35,13 +37,23 @@ loop-taken-preserved g c =
 
 pub overflow_add-result : goal.overflow_add-result
 overflow_add-result g c =
+    let w = c.loop-taken.self-inside.writer in
+    let t = sink_of_writer w in
     let list = batch_entries c.args.batch.now in
     let taken = c.loop-taken.taken in
     let more = c.in-Err.more in
-    let few : more ≤ length (drop taken list) = halts_within g.O.Outlet c.loop-taken.self c.put_one_write.new.self (drop taken list) more c.in-Err.ensures in
+    let few : more ≤ length (drop taken list) =
+    halts_within g.O.Outlet t (sink_of_writer c.put_more.new.self) (drop taken list) more (next_put g.O.Outlet w c.put_more.new.self t refl c.loop-taken.invariant.works (drop taken list) (Err more) c.in-Err.ensures) in
     omega (arith, few, c.loop-taken.invariant.few, length-drop taken list, c.len-count.ensures, c.len-count.type_inv)
 
 pub returns-in-Err : goal.returns-in-Err
 returns-in-Err g c =
+    let o = g.O.Outlet in
+    let w = c.loop-taken.self-inside.writer in
+    let t = sink_of_writer w in
+    let list = batch_entries c.args.batch.now in
+    let taken = c.loop-taken.taken in
+    let more = c.in-Err.more in
     let inv = c.loop-taken.invariant in
-    broke_after g.O.Outlet c.args.self.now c.loop-taken.self c.put_one_write.new.self (batch_entries c.args.batch.now) c.args.first c.loop-taken.taken c.in-Err.more inv.from inv.few inv.putting c.in-Err.ensures
+    broke_after o c.args.self.now t (sink_of_writer c.put_more.new.self) list c.args.first taken more inv.from inv.few inv.putting
+    (next_put o w c.put_more.new.self t refl inv.works (drop taken list) (Err more) c.in-Err.ensures)

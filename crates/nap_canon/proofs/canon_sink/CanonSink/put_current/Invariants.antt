@@ -1,4 +1,5 @@
 use Rattle.nap_canon.proofs.Common.{EachIsCurrent, Putting, batch_entries, canon_sink_model, drop, false, length, ◌-◌, ◌≡◌, ◌≤◌}
+use Rattle.nap_canon.proofs.sinks.PutLemmas.{sink_of_writer}
 use Rattle.nap_canon.proofs.canon_sink.CanonSink.put_current.Given as goal
 
 -- the entries so far
@@ -6,9 +7,9 @@ abbrev pub invariant-loop-taken : goal.invariant-loop-taken
 invariant-loop-taken g l = record {
   from : l.first ≤ l.taken;
   few : l.taken ≤ length (batch_entries l.batch);
-  putting : Putting (canon_sink_model g.O.Outlet) l.fn.self l.self (drop l.first (batch_entries l.batch)) (drop l.taken (batch_entries l.batch));
-  current : EachIsCurrent l.self.state (drop l.taken (batch_entries l.batch));
-  works : g.O.Outlet.failed l.self.outlet ≡ false;
+  putting : Putting (canon_sink_model g.O.Outlet) l.fn.self (sink_of_writer l.self-inside.writer) (drop l.first (batch_entries l.batch)) (drop l.taken (batch_entries l.batch));
+  current : EachIsCurrent l.self-inside.writer.state (drop l.taken (batch_entries l.batch));
+  works : g.O.Outlet.failed l.self-inside.writer.target.outlet ≡ false;
 }
 
 abbrev pub decreases-loop-taken : goal.decreases-loop-taken

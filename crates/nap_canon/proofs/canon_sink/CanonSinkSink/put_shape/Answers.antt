@@ -1,5 +1,4 @@
-use Rattle.nap_canon.proofs.Common.{Canonical, Err, PutSome, TakesAll, [], canon_sink_model, entry_of_shape, false, subst, sym, ◌∙◌, ◌∷◌, ◌≡◌}
-use Rattle.nap_list.specs.declared.sink.SinkFault.TheVariants.{Write}
+use Rattle.nap_canon.proofs.Common.{Canonical, Err, PutSome, TakesAll, Write, [], canon_sink_model, entry_of_shape, false, subst, sym, ◌∙◌, ◌∷◌, ◌≡◌}
 use Rattle.nap_canon.proofs.sinks.PutLemmas.{none_put, one_breaks, sink_of_writer, takes_all}
 use Rattle.nap_canon.proofs.sinks.SinkingLemmas.{took_answered}
 use Rattle.nap_canon.proofs.canon_sink.CanonSinkSink.put_shape.Goals as goal

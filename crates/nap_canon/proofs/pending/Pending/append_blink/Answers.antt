@@ -1,11 +1,9 @@
-use Rattle.nap_canon.proofs.Common.{AppendsPiece, List, [], addr_bytes, ap, arith, length, length-take-le, opcode, refl, subst, sym, take, take_all, word_byte, ℕ, ◌++◌, ◌∙◌, ◌∷◌, ◌≡◌}
+use Rattle.nap_canon.proofs.Common.{AppendsPiece, List, [], addr_bytes, ap, arith, length, length-take-le, opcode, refl, subst, take, take_all, word_byte, ℕ, ◌++◌, ◌∙◌, ◌∷◌, ◌≡◌}
 use Rattle.nap_canon.proofs.texts.PointsLemmas.{addr_size}
 use Rattle.nap_canon.proofs.pending.Pending.append_blink.Goals as goal
 
 pub slice_bounds-append_opcode_and_operands-end : goal.slice_bounds-append_opcode_and_operands-end
-slice_bounds-append_opcode_and_operands-end c =
-    let size : length c.deref.result.now ≡ 4 = ap length (c.deref.ensures.0 ∙ c.put_addr.ensures) ∙ addr_size c.args.addr in
-    sym (length-take-le 4 c.deref.result.now (omega (arith, size)))
+slice_bounds-append_opcode_and_operands-end c = grind (arith, length, addr_size, length-take-le)
 
 pub returns : goal.returns
 returns c =

@@ -1,4 +1,4 @@
-use Rattle.nap_canon.proofs.Common.{Command, List, Some, ap, colour_prelude, option_commands, point_attributes, prelude, sym, ◌++◌, ◌∙◌}
+use Rattle.nap_canon.proofs.Common.{Some, colour_prelude, pel_prelude, point_attributes, prelude, sym}
 use Rattle.nap_canon.proofs.prelude.KindLemmas.{prelude_of_point}
 use Rattle.nap_canon.proofs.texts.WritingLemmas.{both_commands}
 use Rattle.nap_canon.proofs.pending.Pending.append_other_point_prelude.Goals as goal
@@ -6,6 +6,6 @@ use Rattle.nap_canon.proofs.pending.Pending.append_other_point_prelude.Goals as 
 pub returns-clause-appends : goal.returns-clause-appends
 returns-clause-appends c =
     let d = c.args.old.now in
-    let colour : List Command = colour_prelude d.base d.colour (Some c.args.colour) in
-    both_commands (option_commands c.pel_prelude.result) colour (prelude d (point_attributes c.args.pel c.args.colour)) c.args.self.now c.append_command_if.new.self c.append_colour_prelude.new.self
-    (ap (λ (cs : List Command). cs ++ colour) c.pel_prelude.ensures ∙ sym (prelude_of_point d c.args.pel c.args.colour)) c.append_command_if.ensures.appends c.append_colour_prelude.ensures.appends
+    let colour = c.args.colour.now in
+    both_commands (pel_prelude d.pel (Some c.args.pel)) (colour_prelude d.base d.colour (Some colour)) (prelude d (point_attributes c.args.pel colour)) c.args.self.now c.append_pel_prelude.new.self c.append_colour_prelude.new.self
+    (sym (prelude_of_point d c.args.pel colour)) c.append_pel_prelude.ensures.appends c.append_colour_prelude.ensures.appends

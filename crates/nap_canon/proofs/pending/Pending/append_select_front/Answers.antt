@@ -1,11 +1,9 @@
-use Rattle.nap_canon.proofs.Common.{AppendsPiece, List, addr_bytes, ap, arith, length, length-take-le, opcode, subst, sym, take, take_all, ℕ, ◌∙◌, ◌≡◌}
+use Rattle.nap_canon.proofs.Common.{AppendsPiece, List, addr_bytes, ap, arith, length, length-take-le, opcode, subst, take, take_all, ℕ, ◌∙◌, ◌≡◌}
 use Rattle.nap_canon.proofs.texts.PointsLemmas.{addr_size}
 use Rattle.nap_canon.proofs.pending.Pending.append_select_front.Goals as goal
 
 pub slice_bounds-append_opcode_and_operands-end-2 : goal.slice_bounds-append_opcode_and_operands-end-2
-slice_bounds-append_opcode_and_operands-end-2 c =
-    let size : length c.deref.result.now ≡ 4 = ap length (c.deref.ensures.0 ∙ c.put_addr.ensures) ∙ addr_size c.args.addr in
-    sym (length-take-le 4 c.deref.result.now (omega (arith, size)))
+slice_bounds-append_opcode_and_operands-end-2 c = grind (arith, length, addr_size, length-take-le)
 
 pub returns-clause-appends : goal.returns-clause-appends
 returns-clause-appends c =

@@ -1,15 +1,23 @@
-use Rattle.nap_canon.proofs.Common.{AppendsCommands, AppendsPieces, Attributes, Drawing, attributes, command_piece, entry_pieces, map, prelude, refl, spelling_pieces, subst, sym, with_attributes}
+use Rattle.nap_canon.proofs.Common.{AppendsCommands, AppendsPieces, Attributes, Drawing, ap, arith, attributes, batch_attributes, command_piece, entry_pieces, map, prelude, refl, sized_text, spelling_pieces, subst, sym, text_byte_piece, with_attributes, ◌∙◌}
+use Rattle.nap_canon.proofs.sinks.JoinLemmas.{next_typed}
 use Rattle.nap_canon.proofs.sinks.PutLemmas.{first_holds}
-use Rattle.nap_canon.proofs.texts.WritingLemmas.{both_appended}
+use Rattle.nap_canon.proofs.texts.WritingLemmas.{both_appended, one_appended}
 use Rattle.nap_canon.proofs.pending.Pending.append_start.Goals as goal
 
-pub returns : goal.returns
-returns c s same e es is =
+pub item-requires : goal.item-requires
+item-requires c = omega (arith, c.requires.some, sized_text _ _ _ _ _ c.in-Text.is)
+
+pub returns-in-Text : goal.returns-in-Text
+returns-in-Text c s same e es is =
     let form = c.args.form in
+    let d = c.args.old.now in
+    let batch = c.args.batch.now in
     let w = c.args.self.now in
-    let m = c.append_batch_prelude.new.self in
-    let t = c.append_spelling_at.new.self in
+    let m = c.append_text_prelude.new.self in
+    let t = c.append_text_byte.new.self in
+    let text = c.in-Text in
     both_appended (map command_piece (prelude s.drawing (attributes e))) (spelling_pieces form (with_attributes s.drawing (attributes e)) e) (entry_pieces form s e) w m t refl
     (subst (λ (d : Drawing). AppendsCommands (prelude d (attributes e)) w m) (sym same)
-    (subst (λ (h : Attributes). AppendsCommands (prelude c.args.old.now h) w m) (first_holds c.args.batch.now e es is) c.append_batch_prelude.ensures.appends))
-    (subst (λ (d : Drawing). AppendsPieces (spelling_pieces form (with_attributes d (attributes e)) e) m t) (sym same) (c.append_spelling_at.ensures e es is))
+    (subst (λ (h : Attributes). AppendsCommands (prelude d h) w m) (sym (ap batch_attributes text.is) ∙ first_holds batch e es is) c.append_text_prelude.ensures.appends))
+    (subst (λ (d : Drawing). AppendsPieces (spelling_pieces form (with_attributes d (attributes e)) e) m t) (sym same)
+    (one_appended _ (text_byte_piece text.set c.item.result) m t (next_typed form d batch text.set text.codes text.pen text.drawing 0 c.item.result _ text.is c.item.ensures e es is) c.append_text_byte.ensures))

@@ -1,4 +1,4 @@
-use Rattle.nap_canon.proofs.Common.{Batch, Joins, arith, sized_lines, sized_text, subst}
+use Rattle.nap_canon.proofs.Common.{arith, sized_lines, sized_text}
 use Rattle.nap_canon.proofs.writer.Writer.joining_count.Goals as goal
 
 pub line_start-requires : goal.line_start-requires
@@ -17,8 +17,4 @@ pub returns-else-ne-2-clause-few : goal.returns-else-ne-2-clause-few
 returns-else-ne-2-clause-few g c = omega (arith, c.joining_code_count.ensures.few, sized_text _ _ _ _ _ c.in-Text.is)
 
 pub returns-else-ne-clause-some : goal.returns-else-ne-clause-some
-returns-else-ne-clause-some g c joins =
-    let w = c.args.self.now in
-    let one : Joins w.form w.pending.text_end w.state (Batch.Lines c.in-Lines.from c.in-Lines.points c.in-Lines.drawing) c.args.first 1 =
-    subst (λ (b : Batch). Joins w.form w.pending.text_end w.state b c.args.first 1) c.in-Lines.is joins in
-    c.joining_point_count-in-Lines.ensures.some (omega (arith, c.requires.some, sized_lines _ _ _ _ c.in-Lines.is)) one.0.1
+returns-else-ne-clause-some g c joins = grind (arith, sized_lines)

@@ -1,19 +1,9 @@
-use Rattle.nap_canon.proofs.Common.{Coordinates, List, [], ap, append-nil, arith, chunks_rest, chunks_size, displacement_bytes, err_from_is_err_and, false, last_point, nil_from_length, refl, rules, subst, sym, take_all, ℕ, ◌++◌, ◌∙◌, ◌≡◌}
+use Rattle.nap_canon.proofs.Common.{List, ap, append-nil, arith, chunks_rest, displacement_bytes, err_from_is_err_and, false, last_point, nil_from_length, refl, take_all, ℕ, ◌++◌, ◌∙◌, ◌≡◌}
 use Rattle.nap_canon.proofs.texts.WriterLemmas.{displacements_part, sent_second}
 use Rattle.nap_canon.proofs.writer.Writer.write_displacements.Goals as goal
 
 pub loop-chunk-init : goal.loop-chunk-init
-loop-chunk-init g c =
-    let size : chunks_size c.into_iter-chunk-iterator.result ≡ 128 = search rules in
-    let all : chunks_rest c.into_iter-chunk-iterator.result ≡ c.args.others.now = search rules in
-    record {
-      can = omega arith;
-      finite = tt;
-      size = size;
-      sent = ([], g.met.T.ByteSink.sent_none c.args.self.now.target, ap (displacement_bytes c.args.first) all);
-      text_end = refl;
-      kept = (refl, refl);
-    }
+loop-chunk-init g c = grind arith
 
 pub loop-chunk-preserved : goal.loop-chunk-preserved
 loop-chunk-preserved g c =
@@ -56,15 +46,4 @@ returns-in_err-write_all g c =
 
 pub returns : goal.returns
 unfolding displacement_bytes
-returns g c =
-    let so_far = c.loop-chunk.invariant.sent in
-    let none = nil_from_length _ c.in-None.ensures.steps.1.0 in
-    let all : so_far.0 ≡ displacement_bytes c.args.first c.args.others.now =
-    sym (append-nil so_far.0)
-    ∙ ap (λ (qs : List Coordinates). so_far.0 ++ displacement_bytes c.loop-chunk.from qs) (sym none)
-    ∙ so_far.2 in
-    record {
-      sent = subst (λ (bytes : List ℕ). g.T.ByteSink.sent c.args.self.now.target bytes false c.loop-chunk.self.target) all so_far.1;
-      text_end = c.loop-chunk.invariant.text_end;
-      kept = c.loop-chunk.invariant.kept;
-    }
+returns g c = grind (arith, nil_from_length, append-nil)

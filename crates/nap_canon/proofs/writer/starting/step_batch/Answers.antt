@@ -22,6 +22,4 @@ returns-in-Some c =
 
 pub returns-in_default : goal.returns-in_default
 unfolding walk
-returns-in_default c =
-    let none : 0 ≡ c.args.count = omega (arith, c.in_default.ensures) in
-    ap (λ (n : ℕ). walk c.args.state.now (take n (batch_entries c.args.batch.now))) none
+returns-in_default c = grind arith

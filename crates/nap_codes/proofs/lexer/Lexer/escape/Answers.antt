@@ -4,7 +4,7 @@ use Rattle.nap_codes.proofs.NextLemmas.{same_lexer}
 use Rattle.nap_codes.proofs.lexer.Lexer.escape.Goals as goal
 
 pub returns : goal.returns
-returns c =
+returns c = λ rested.
     let lexer = c.args.self.now in
-    escape_steps lexer _ c.requires
+    escape_steps lexer _ rested
     (same_lexer (record { sets = lexer.sets; half = 0x1B ∷ [] }) _ (ap (λ (l : LexerState). l.sets) c.self.view_is) refl)

@@ -25,4 +25,4 @@ pub returns-in-Err : goal.returns-in-Err
 returns-in-Err c =
     let r = c.in-Err.refusal in
     let answers = answers_refused Question.List (λ h. cc) c.args.budget c.args.page.now refl _ c.over.result r.fault r.place c.in-Err.ensures (λ t. refl) in
-    IfOk-weaker c.refused_answer.result _ _ (λ a h. answers a.line.items a.body h) c.refused_answer.ensures
+    IfOk-weaker c.failure_answer.result _ _ (λ a h. answers a.line.items a.body h) c.failure_answer.ensures

@@ -1,5 +1,6 @@
-use Rattle.nap_command.proofs.Common.{BreaksWithin, Entry, Fault, HasRead, IfOk-weaker, LineSinkState, List, [], ap, arith, begun, budget_of, drop, false≢true, length, length-drop, length-take-le, lines, lines_on, means, subst, sym, take, take-append-drop, ℕ, ◌++◌, ◌+◌, ◌-◌, ◌∙◌, ◌≡◌, ◌≢◌, ◌≤◌}
-use Rattle.nap_command.proofs.PlaceLemmas.{BrokenAfter, IsFed, all_places, breaks_at, breaks_last, broke_apart, came, came_last, kept, kept_refused, last_count, last_new, lines_taken, next_count, next_new, next_same, next_has_read, next_written, no_entries, no_lines, none_before, own_cause, rest_is, still_refused, stops_so, whole_page, written_last}
+use Rattle.nap_command.proofs.Common.{BreaksWithin, Entry, Fault, HasRead, LineSinkState, List, [], ap, arith, begun, budget_of, drop, false≢true, length, length-drop, length-take-le, lines, lines_on, means, subst, sym, take, take-append-drop, ℕ, ◌++◌, ◌+◌, ◌-◌, ◌∙◌, ◌≡◌, ◌≢◌, ◌≤◌}
+use Rattle.nap_command.proofs.PlaceLemmas.{IsFed, all_places, breaks_at, breaks_last, broke_apart, came, came_last, kept, kept_refused, last_count, last_new, lines_taken, next_count, next_new, next_same, next_has_read, next_written, no_entries, no_lines, none_before, own_cause, rest_is, still_refused, stops_so, whole_page, written_last}
+use Rattle.nap_command.proofs.batch.places.read_places.Goals.{After-feed}
 use Rattle.nap_command.proofs.batch.places.read_places.Goals as goal
 
 pub loop-place-init : goal.loop-place-init
@@ -19,6 +20,23 @@ loop-place-init c =
       text = c.in_ok-written.ensures.0 ∙ sym (none_before c.args.budget c.args.page.now);
     }
 
+-- what comes of the bytes that a reader has looked at
+fed : (c : After-feed) → IsFed c.loop-place.reader c.feed.new.self c.args.budget c.args.page.now (take (length c.args.page.now - c.loop-place.place) (drop c.loop-place.place c.args.page.now))
+    c.loop-place.place c.ahead.result c.stride_of-count.result.0 c.stride_of-count.result.1
+fed c = record {
+  within = c.loop-place-test.true;
+  rest_is = rest_is c.args.page.now c.loop-place.place;
+  count = c.stride_of-count.ensures.count;
+  pace = c.stride_of-count.ensures.step;
+  some = c.ahead.ensures.some;
+  adds = c.ahead.ensures.adds_entries;
+  live = c.loop-place.invariant.live;
+  was = c.loop-place.invariant.budget;
+  before = c.loop-place.invariant.has_read;
+  has_read = c.feed.ensures.has_read;
+  still = c.feed.ensures.budget;
+}
+
 pub returns-in-Err : goal.returns-in-Err
 returns-in-Err c =
     let budget = c.args.budget in
@@ -33,20 +51,7 @@ returns-in-Err c =
     let step = c.stride_of-count.result.1 in
     let q = c.in-Err.refusal in
     let text = c.loop-place.written.text.items in
-    let f : IsFed old new budget page rest i found n step =
-    record {
-      within = c.loop-place-test.true;
-      rest_is = rest_is page i;
-      count = c.stride_of-count.ensures.count;
-      pace = c.stride_of-count.ensures.step;
-      some = c.ahead.ensures.some;
-      adds = c.ahead.ensures.adds_entries;
-      live = inv.live;
-      was = inv.budget;
-      before = inv.has_read;
-      has_read = c.feed.ensures.has_read;
-      still = c.feed.ensures.budget;
-    } in
+    let f = fed (goal.at.returns-in-Err c).After-feed in
     let within : i + n ≤ length page =
     omega (arith, c.loop-place-test.true, c.stride_of-count.ensures.count, c.ahead.ensures.within, ap (λ (bs : List ℕ). length bs) (rest_is page i), length-drop i page) in
     let (m, stops) = c.in-Err.ensures.stops inv.live in
@@ -55,9 +60,8 @@ returns-in-Err c =
     (own_cause q.fault apart (λ is. false≢true (c.in-Err.ensures.failed inv.live is))) in
     let fresh = λ (apart : q.fault ≢ Fault.Memory).
     next_new lines_taken f c.loop-place.written.known c.text-lines.result.now inv.size (c.text-lines.ensures ∙ (ap (λ (s : LineSinkState). s.text) c.sink.ensures.now ∙ (k apart).0)) in
-    stops_so budget page c.stopped_places.result q (text ++ lines_on i step (came lines_taken f)) c.stopped_places.ensures.ended c.stopped_places.ensures.memory
-    (IfOk-weaker c.stopped_places.result (BrokenAfter q.fault c.loop-place.written.known c.text-lines.result.now text i step) (λ r. q.fault ≢ Fault.Memory → r.text.items ≡ text ++ lines_on i step (came lines_taken f))
-    (λ r h apart. h apart (came lines_taken f) (fresh apart)) c.stopped_places.ensures.own)
+    stops_so budget page c.stopped_places.result q c.loop-place.written.known i step c.text-lines.result.now text (came lines_taken f) c.stopped_places.ensures.ended
+    c.stopped_places.ensures.memory c.stopped_places.ensures.own fresh
     (λ apart. (
       ap (λ (bs : List ℕ). (means budget bs).refusal) (sym (take-append-drop (i + n) page)) ∙ still_refused budget (take (i + n) page) (drop (i + n) page) q (k apart).1,
       next_written lines_taken f text inv.text ∙ sym (all_places budget page (i + n) q (k apart).1 within),
@@ -76,20 +80,7 @@ loop-place-preserved c =
     let rest = take (length page - i) (drop i page) in
     let n = c.stride_of-count.result.0 in
     let step = c.stride_of-count.result.1 in
-    let f : IsFed old new budget page rest i found n step =
-    record {
-      within = c.loop-place-test.true;
-      rest_is = rest_is page i;
-      count = c.stride_of-count.ensures.count;
-      pace = c.stride_of-count.ensures.step;
-      some = c.ahead.ensures.some;
-      adds = c.ahead.ensures.adds_entries;
-      live = inv.live;
-      was = inv.budget;
-      before = inv.has_read;
-      has_read = c.feed.ensures.has_read;
-      still = c.feed.ensures.budget;
-    } in
+    let f = fed (goal.at.loop-place-preserved c).After-feed in
     let few : n ≤ length rest = omega (arith, c.stride_of-count.ensures.count, c.ahead.ensures.within) in
     let within : i + n ≤ length page = omega (arith, c.loop-place-test.true, few, ap (λ (bs : List ℕ). length bs) (rest_is page i), length-drop i page) in
     let all = c.text.ensures ∙ (ap (λ (s : LineSinkState). s.text) c.sink-in-loop-place.ensures.now
@@ -140,9 +131,8 @@ returns-in-Err-finish c =
     let fresh = λ (apart : q.fault ≢ Fault.Memory).
     last_new budget page i end c.loop-place.written.known c.text-in-Err-finish.result.now inv.size
     (c.text-in-Err-finish.ensures ∙ ((taken apart).1.text ∙ ap (λ (b : ℕ). lines (means b page).entries) inv.budget)) in
-    stops_so budget page c.stopped_places-in-Err-finish.result q (text ++ lines_on i 0 last) c.stopped_places-in-Err-finish.ensures.ended c.stopped_places-in-Err-finish.ensures.memory
-    (IfOk-weaker c.stopped_places-in-Err-finish.result (BrokenAfter q.fault c.loop-place.written.known c.text-in-Err-finish.result.now text i 0) (λ r. q.fault ≢ Fault.Memory → r.text.items ≡ text ++ lines_on i 0 last)
-    (λ r h apart. h apart last (fresh apart)) c.stopped_places-in-Err-finish.ensures.own)
+    stops_so budget page c.stopped_places-in-Err-finish.result q c.loop-place.written.known i 0 c.text-in-Err-finish.result.now text last c.stopped_places-in-Err-finish.ensures.ended
+    c.stopped_places-in-Err-finish.ensures.memory c.stopped_places-in-Err-finish.ensures.own fresh
     (λ apart. (
       ap (λ (b : ℕ). (means b page).refusal) (sym inv.budget) ∙ (taken apart).0,
       ap (λ (bs : List ℕ). bs ++ lines_on i 0 last) inv.text ∙ written_last budget page i end,

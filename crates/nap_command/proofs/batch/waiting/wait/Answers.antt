@@ -1,6 +1,6 @@
-use Rattle.nap_command.proofs.Common.{Consumes-nil, Consumes-trans, Ended, Err, FoundRequest, IsFound, IsLast, IsWhole, List, NeverStarts, ReadStep, Result, [], ap, append-nil, append_assoc, arith, err_from_is_err_and, length-append, refl, rules, subst, sym, ℕ, ◌++◌, ◌∙◌, ◌≡◌}
+use Rattle.nap_command.proofs.Common.{Consumes-nil, Consumes-trans, Ended, Err, FoundRequest, IsFound, IsLast, IsWhole, List, NeverStarts, Ok, ReadStep, Result, [], ap, append-nil, append_assoc, arith, err_from_is_err_and, inl, length-append, refl, rules, subst, sym, ℕ, ◌++◌, ◌∙◌, ◌≡◌}
 use Rattle.nap_command.proofs.FrontLemmas.{stays_within}
-use Rattle.nap_command.proofs.WaitLemmas.{finds_dropped, finds_end, finds_last, finds_whole, finds_wrong, longer}
+use Rattle.nap_command.proofs.WaitLemmas.{finds_dropped, finds_end, finds_last, finds_now, longer}
 use Rattle.nap_command.proofs.batch.waiting.wait.Goals as goal
 
 pub loop-reads-init : goal.loop-reads-init
@@ -33,13 +33,13 @@ loop-reads-preserved g c =
 pub returns-in-Whole-clause-found : goal.returns-in-Whole-clause-found
 returns-in-Whole-clause-found g c =
     let inv = c.loop-reads.invariant in
-    finds_whole g.I.Inlet _ _ inv.bytes _ _ inv.read inv.buffer inv.flag inv.keeps c.in-Whole.line c.in-Whole.start
-    (subst (λ (bytes : List ℕ). IsWhole bytes c.in-Whole.line c.in-Whole.start) c.bytes.ensures c.in-Whole.ensures)
+    let whole = subst (λ (bytes : List ℕ). IsWhole bytes c.in-Whole.line c.in-Whole.start) (c.bytes.ensures ∙ inv.buffer) c.in-Whole.ensures in
+    finds_now g.I.Inlet _ _ inv.bytes _ _ inv.read inv.buffer inv.flag inv.keeps (Ok (FoundRequest.Whole c.in-Whole.line c.in-Whole.start)) (inv.buffer, whole, inv.flag)
 
 pub returns-in-Wrong-clause-found : goal.returns-in-Wrong-clause-found
 returns-in-Wrong-clause-found g c =
     let inv = c.loop-reads.invariant in
-    finds_wrong g.I.Inlet _ _ inv.bytes _ _ inv.read inv.buffer inv.flag inv.keeps (subst NeverStarts c.bytes.ensures c.in-Wrong.ensures)
+    finds_now g.I.Inlet _ _ inv.bytes _ _ inv.read inv.buffer inv.flag inv.keeps (Err Ended.Request) (inl (subst NeverStarts (c.bytes.ensures ∙ inv.buffer) c.in-Wrong.ensures), inv.flag)
 
 pub returns-in_err-read_more-in-More-clause-found : goal.returns-in_err-read_more-in-More-clause-found
 returns-in_err-read_more-in-More-clause-found g c =

@@ -1,30 +1,24 @@
-use Rattle.nap_draw.proofs.Common.{Ok, [], ap, code_rule, refl, rule_result, walk, ◌≡◌}
+use Rattle.nap_draw.proofs.Common.{Ok, [], ap, code_rule, refl, rule_result, ◌≡◌}
 use Rattle.nap_codes.specs.declared.code.Code.{Code}
 use Rattle.nap_draw.proofs.Acting.{obeys_quietly}
 use Rattle.nap_draw.proofs.work.Work.apply_control.Goals as goal
 
 pub returns-in-Named : goal.returns-in-Named
-unfolding walk
 returns-in-Named g c = obeys_quietly g.S.Sink _ c.args.self.now _ _ (g.met.S.Sink.took_none _) (ap (code_rule c.args.self.now) c.in-Named.is)
 
 pub returns-in-Reverse : goal.returns-in-Reverse
-unfolding walk
 returns-in-Reverse g c = obeys_quietly g.S.Sink _ c.args.self.now _ _ (g.met.S.Sink.took_none _) (ap (code_rule c.args.self.now) c.in-Reverse.is)
 
 pub returns-in-Underline : goal.returns-in-Underline
-unfolding walk
 returns-in-Underline g c = obeys_quietly g.S.Sink _ c.args.self.now _ _ (g.met.S.Sink.took_none _) (ap (code_rule c.args.self.now) c.in-Underline.is)
 
 pub returns-in-Wrap : goal.returns-in-Wrap
-unfolding walk
 returns-in-Wrap g c = obeys_quietly g.S.Sink _ c.args.self.now _ _ (g.met.S.Sink.took_none _) (ap (code_rule c.args.self.now) c.in-Wrap.is)
 
 pub returns-in-Scroll : goal.returns-in-Scroll
-unfolding walk
 returns-in-Scroll g c = obeys_quietly g.S.Sink _ c.args.self.now _ _ (g.met.S.Sink.took_none _) (ap (code_rule c.args.self.now) c.in-Scroll.is)
 
 pub returns-in_default : goal.returns-in_default
-unfolding walk
 returns-in_default g c = obeys_quietly g.S.Sink _ c.args.self.now _ c.args.sink.now (g.met.S.Sink.took_none c.args.sink.now) (other c.args.code.now refl)
   where
     other : (code : Code) → c.args.code.now ≡ code → code_rule c.args.self.now code ≡ Ok (rule_result c.args.self.now [])

@@ -1,6 +1,6 @@
 use Rattle.nap_draw.proofs.Common.{definition_ended, definition_start, refl, walk}
 use Rattle.nap_draw.proofs.Acting.{obeys_put, obeys_stop}
-use Rattle.nap_draw.proofs.Endings.{start_fits, one_after}
+use Rattle.nap_draw.proofs.Results.{one_after, start_fits}
 use Rattle.nap_draw.proofs.work.Work.begin_definition.Goals as goal
 
 pub step-requires : goal.step-requires

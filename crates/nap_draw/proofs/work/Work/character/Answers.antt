@@ -1,14 +1,7 @@
-use Rattle.nap_draw.proofs.Common.{DrawFault, Entry, Hand, LastChar, Ok, Pen, Result, RuleResult, Some, State, [], ap, false, hand_of, rule_result, sym, walk, with_pen, ◌∙◌, ◌∷◌}
+use Rattle.nap_draw.proofs.Common.{Entry, Hand, Ok, [], ap, arith, rule_result, sym, walk, ◌∷◌}
 use Rattle.nap_draw.proofs.Acting.{obeys_put, obeys_stop}
-use Rattle.nap_draw.proofs.Copies.{char_holds, char_left}
+use Rattle.nap_draw.proofs.Texts.{char_left}
 use Rattle.nap_draw.proofs.work.Work.character.Goals as goal
-
-pub put-requires : goal.put-requires
-put-requires g c =
-    rw c.hand-hand.ensures (record {
-      agrees = c.requires.agrees;
-      follows = record { holds = char_holds (record { set = c.args.set; code = c.args.code }) c.args.self.now.state; made = c.requires.made; comes = tt };
-    })
 
 pub returns-in_err-put : goal.returns-in_err-put
 returns-in_err-put g c =
@@ -18,9 +11,4 @@ returns-in_err-put g c =
 
 pub returns : goal.returns
 unfolding walk
-returns g c =
-    let w = c.args.self.now in
-    let last : LastChar = record { set = c.args.set; code = c.args.code } in
-    let by : Hand → State → Result RuleResult DrawFault = λ hand s. Ok (record { entries = Entry.Char c.args.set c.args.code hand ∷ []; work = record w { state = s }; clears = false }) in
-    let left = char_left last w.state c.requires.agrees.drawing.mode in
-    obeys_put g.S.Sink _ w _ _ _ _ (ap (by (hand_of w.state.drawing)) left ∙ ap (λ (hand : Hand). by hand (record w.state { drawing = with_pen Pen.After w.state.drawing; last = Some last })) (sym c.hand-hand.ensures)) c.in_ok-put.ensures
+returns g c = grind (arith, char_left, obeys_put)

@@ -1,5 +1,5 @@
-use Rattle.nap_draw.proofs.Common.{AllFit, Entry, List, State, ap, err_from_is_err_and, subst, sym}
-use Rattle.nap_draw.proofs.Texts.{text_is, text_left, text_fits, text_agrees, text_none, no_codes}
+use Rattle.nap_draw.proofs.Common.{All, AllFit, Entry, IsTextByte, List, State, ap, err_from_is_err_and, subst, sym}
+use Rattle.nap_draw.proofs.Texts.{last_typed, text_is, text_left, text_fits, text_agrees, text_none, no_codes}
 use Rattle.nap_draw.proofs.work.Work.characters.Goals as goal
 
 pub put_batch-requires : goal.put_batch-requires
@@ -33,9 +33,12 @@ returns-clause-put g c = rw (text_is c.args.self.now.state c.args.set c.args.cod
 pub returns-clause-work : goal.returns-clause-work
 returns-clause-work g c =
     let w = c.args.self.now in
-    ap (λ (s : State). record w { state = s }) (sym (text_left w.state c.args.set c.args.codes.now c.in-Some.field-0-1.now c.in-Some.code.now _ c.requires.agrees.drawing.mode c.in-Some.ensures.cases.0 c.last_char_of_text-self.ensures))
+    ap (λ (s : State). record w { state = s }) (sym (text_left w.state c.args.set c.args.codes.now c.in-Some.field-0-1.now c.in-Some.code.now _ c.requires.agrees.drawing.mode c.in-Some.ensures.cases.0 c.last_char-self.ensures))
 
 pub returns-clause-agree : goal.returns-clause-agree
 returns-clause-agree g c =
     text_agrees c.args.self.now.state _ _ _ c.args.set c.args.codes.now c.requires.agrees c.requires.made c.in_ok-put_batch.ensures.state
-    (text_left c.args.self.now.state c.args.set c.args.codes.now c.in-Some.field-0-1.now c.in-Some.code.now _ c.requires.agrees.drawing.mode c.in-Some.ensures.cases.0 c.last_char_of_text-self.ensures)
+    (text_left c.args.self.now.state c.args.set c.args.codes.now c.in-Some.field-0-1.now c.in-Some.code.now _ c.requires.agrees.drawing.mode c.in-Some.ensures.cases.0 c.last_char-self.ensures)
+
+pub last_char-self-requires : goal.last_char-self-requires
+last_char-self-requires g c = last_typed _ _ (subst (All IsTextByte) c.in-Some.ensures.cases.0 c.requires.made)

@@ -1,6 +1,6 @@
 use Rattle.nap_draw.proofs.Common.{DrawFault, LastChar, Ok, Option, Result, RuleResult, State, ap, false, repeated_chars, sym, with_pen, ◌∙◌}
 use Rattle.nap_list.specs.declared.attribute.Pen.TheVariants.{After}
-use Rattle.nap_draw.proofs.Copies.{char_left, copies_leave, copies_many, last_is_code}
+use Rattle.nap_draw.proofs.Texts.{char_left, copies_leave, copies_many, last_is_code}
 use Rattle.nap_draw.proofs.work.Work.count_copies.Goals as goal
 
 pub returns-clause-counted : goal.returns-clause-counted

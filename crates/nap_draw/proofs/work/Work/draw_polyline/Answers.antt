@@ -1,8 +1,8 @@
 use Rattle.nap_draw.proofs.Common.{AllFit, Entry, List, None, Ok, ap, clears_nothing, false, polyline_spans, rule_result, sink_model_of, some_put, span_line_entry, subst, with_pen_moved_to, ◌∙◌}
 use Rattle.nap_draw.proofs.Acting.{does_put, does_stop}
 use Rattle.nap_draw.proofs.Fits.{all_fit}
-use Rattle.nap_draw.proofs.Links.{joined_lines, joined_end}
-use Rattle.nap_draw.proofs.Walks.{line_lands, draws_end, end_is_last}
+use Rattle.nap_draw.proofs.Decoding.{joined_end, joined_lines}
+use Rattle.nap_draw.proofs.Walks.{draws_end, end_is_last, line_lands}
 use Rattle.nap_draw.proofs.work.Work.draw_polyline.Goals as goal
 
 pub put_batch-requires : goal.put_batch-requires

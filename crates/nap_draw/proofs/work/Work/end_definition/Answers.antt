@@ -1,10 +1,9 @@
-use Rattle.nap_draw.proofs.Common.{Ok, ap, walk}
+use Rattle.nap_draw.proofs.Common.{Ok, ap}
 use Rattle.nap_draw.proofs.Acting.{obeys_quietly, obeys_stop}
-use Rattle.nap_draw.proofs.Endings.{not_ended, is_ended}
+use Rattle.nap_draw.proofs.Results.{is_ended, not_ended}
 use Rattle.nap_draw.proofs.work.Work.end_definition.Goals as goal
 
 pub returns-then-is_none : goal.returns-then-is_none
-unfolding walk
 returns-then-is_none g c =
     let w = c.args.self.now in
     obeys_quietly g.S.Sink _ w _ c.args.sink.now (g.met.S.Sink.took_none c.args.sink.now) (ap Ok (not_ended w w.state.definition c.if-is_none.ensures))

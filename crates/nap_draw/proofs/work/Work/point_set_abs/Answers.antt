@@ -1,6 +1,6 @@
 use Rattle.nap_draw.proofs.Common.{[], ap, arith, operand_words, point_at, refl, sym, ◌∙◌}
 use Rattle.nap_draw.proofs.ByteRuns.{one_of_three}
-use Rattle.nap_draw.proofs.Going.{goes_end, pen_after, sets_once}
+use Rattle.nap_draw.proofs.Results.{goes_end, pen_after, sets_once}
 use Rattle.nap_draw.proofs.work.Work.point_set_abs.Goals as goal
 
 pub returns-in_default : goal.returns-in_default

@@ -1,9 +1,8 @@
 use Rattle.nap_draw.proofs.Common.{List, ap, arith, chunks_rest, chunks_size, moves, operand_words, pen_result, point_at, points_at, refl, sym, ℕ, ◌∙◌}
 use Rattle.nap_draw.proofs.Acting.{sets_refused}
 use Rattle.nap_draw.proofs.ByteRuns.{moves_chunk, moves_none}
-use Rattle.nap_draw.proofs.Decoding.{filling_begins, filling_more, filling_none, filling_end}
-use Rattle.nap_draw.proofs.Going.{goes_end, pen_before, pen_after}
-use Rattle.nap_draw.proofs.Turns.{points_turn, cons_if_all_more, cons_if_all_none}
+use Rattle.nap_draw.proofs.Decoding.{cons_if_all_more, cons_if_all_none, filling_begins, filling_end, filling_more, filling_none, points_turn}
+use Rattle.nap_draw.proofs.Results.{goes_end, pen_after, pen_before}
 use Rattle.nap_draw.proofs.work.Work.point_set_each.Goals as goal
 
 pub returns-in_err-require_operand : goal.returns-in_err-require_operand
@@ -16,7 +15,7 @@ loop-operand-init c =
       can = omega (arith, c.from.ensures, c.multi.ensures.value, c.multi.ensures.least, c.chunks-operand-items.ensures.size, ap chunks_size given);
       finite = tt;
       size = omega (arith, c.from.ensures, c.multi.ensures.value, c.chunks-operand-items.ensures.size, ap chunks_size given);
-      filling = filling_begins _ _ _ _ (ap (λ (run : List ℕ). points_at (moves c.args.self.now.domain.multi (operand_words run))) (sym (ap chunks_rest given ∙ c.chunks-operand-items.ensures.rest))) (pen_before c.args.self.now.state.drawing c.pen-pen.result c.pen-pen.ensures);
+      filling = filling_begins _ _ _ _ (ap (λ (run : List ℕ). points_at (moves c.args.self.now.domain.multi (operand_words run))) (sym (ap chunks_rest given ∙ c.chunks-operand-items.ensures.rest))) (pen_before c.args.self.now.state.drawing _ refl);
     }
 
 pub returns-in_default : goal.returns-in_default

@@ -1,9 +1,8 @@
 use Rattle.nap_draw.proofs.Common.{List, ap, arith, chunks_rest, chunks_size, displaced_point, last_or, moves, operand_words, pen_result, points_reached, refl, sym, ℕ, ◌∙◌}
 use Rattle.nap_draw.proofs.Acting.{sets_refused}
 use Rattle.nap_draw.proofs.ByteRuns.{moves_chunk, moves_none}
-use Rattle.nap_draw.proofs.Decoding.{filling_begins, filling_more, filling_none, filling_end}
-use Rattle.nap_draw.proofs.Going.{goes_end, end_after, pen_reached}
-use Rattle.nap_draw.proofs.Turns.{reached_turn, cons_if_all_more, cons_if_all_none}
+use Rattle.nap_draw.proofs.Decoding.{cons_if_all_more, cons_if_all_none, filling_begins, filling_end, filling_more, filling_none, reached_turn}
+use Rattle.nap_draw.proofs.Results.{end_after, goes_end, pen_reached}
 use Rattle.nap_draw.proofs.work.Work.point_set_rel.Goals as goal
 
 pub returns-in_err-at : goal.returns-in_err-at

@@ -1,4 +1,4 @@
-use Rattle.nap_draw.proofs.Common.{DrawFault, Ok, Result, RuleResult, State, [], ap, false, refl, walk, ◌∷◌}
+use Rattle.nap_draw.proofs.Common.{arith, refl, walk}
 use Rattle.nap_draw.proofs.Acting.{obeys_put, obeys_stop}
 use Rattle.nap_draw.proofs.work.Work.put_and_set_pen.Goals as goal
 
@@ -7,7 +7,4 @@ returns-in_err-put g c = obeys_stop g.S.Sink _ _ _ _ _ _ _ c.from_residual.ensur
 
 pub returns : goal.returns
 unfolding walk
-returns g c =
-    let w = c.args.self.now in
-    let by : State → Result RuleResult DrawFault = λ s. Ok (record { entries = c.args.entry ∷ []; work = record w { state = s }; clears = false }) in
-    obeys_put g.S.Sink _ w _ _ _ _ (ap by c.requires.leaves) c.in_ok-put.ensures
+returns g c = grind (arith, obeys_put)

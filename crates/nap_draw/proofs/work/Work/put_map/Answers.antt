@@ -1,16 +1,12 @@
-use Rattle.nap_draw.proofs.Common.{Ok, clears_nothing, refl, sym, walk, ◌∙◌}
-use Rattle.nap_draw.proofs.Acting.{sets_does, does_stop, does_put}
-use Rattle.nap_draw.proofs.Attributes.{known_colour, new_colour}
+use Rattle.nap_draw.proofs.Common.{Ok, clears_nothing, refl, sym, ◌∙◌}
+use Rattle.nap_draw.proofs.Acting.{does_put, does_stop, sets_does}
+use Rattle.nap_draw.proofs.Results.{known_colour, new_colour}
 use Rattle.nap_draw.proofs.work.Work.put_map.Goals as goal
 
 pub returns-then-has : goal.returns-then-has
-unfolding walk
 returns-then-has g c =
     let known = known_colour c.args.self.now c.args.addr c.args.grb (sym c.has.ensures ∙ c.if-has.true) in
     sets_does g.S.Sink c.args.sink.now (g.met.S.Sink.took_none c.args.sink.now) ⊥ _ c.args.self.now _ (Ok (tt {0})) known
-
-pub put-requires : goal.put-requires
-put-requires g c = record { agrees = c.requires; follows = record { holds = record { pen = tt; pel = tt; colour = tt; texture = tt; text = tt }; made = tt; comes = sym c.has.ensures ∙ c.if-has.false } }
 
 pub returns-in_err-put : goal.returns-in_err-put
 returns-in_err-put g c =

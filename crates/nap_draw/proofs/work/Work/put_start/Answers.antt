@@ -1,5 +1,5 @@
 use Rattle.nap_draw.proofs.Common.{Entry, Err, List, PutsList, PutsSoFar, [], definition_start, err_from_is_err_and, one_goes, one_put, one_stops, put_begins, refl, rest_put, sink_model_of, subst, ◌∷◌}
-use Rattle.nap_draw.proofs.Endings.{with_end}
+use Rattle.nap_draw.proofs.Results.{with_end}
 use Rattle.nap_draw.proofs.work.Work.put_start.Goals as goal
 
 pub returns-in_err-put : goal.returns-in_err-put

@@ -1,9 +1,9 @@
 use Rattle.nap_draw.proofs.Common.{Err, None, Some, [], ap, arith, displaced_point, entries_result, operand_words, rect_on, rect_spans, refl, sym, ◌∙◌, ◌∷◌}
 use Rattle.nap_draw.specs.declared.fault.DrawFault.TheVariants.{Outside}
 use Rattle.nap_draw.proofs.ByteRuns.{one_of_three}
-use Rattle.nap_draw.proofs.Turns.{across_once}
-use Rattle.nap_draw.proofs.Acting.{does_refused, does_unfilled, does_filled}
-use Rattle.nap_draw.proofs.Rows.{rect_rule}
+use Rattle.nap_draw.proofs.Decoding.{across_once}
+use Rattle.nap_draw.proofs.Acting.{does_filled, does_refused, does_unfilled}
+use Rattle.nap_draw.proofs.Results.{rect_rule}
 use Rattle.nap_draw.proofs.work.Work.rect.Goals as goal
 
 pub returns-in_err-from-clause-acts : goal.returns-in_err-from-clause-acts

@@ -1,10 +1,10 @@
-use Rattle.nap_draw.proofs.Common.{LastChar, Ok, Option, ap, arith, nat_tests, refl, repeated_chars, rule_result, sink_model_of, some_put, walk, with_last, ◌<◌, ◌∙◌, ◌≡◌}
-use Rattle.nap_draw.proofs.Acting.{obeys_fully, obeys_put, obeys_stop, obeys_quietly}
-use Rattle.nap_draw.proofs.Copies.{prefix_some, prefix_typed, last_is_code, repeat_is}
+use Rattle.nap_draw.proofs.Common.{LastChar, Ok, Option, ap, arith, nat_tests, refl, repeated_chars, rule_result, sink_model_of, some_put, with_last, ◌<◌, ◌∙◌, ◌≡◌}
+use Rattle.nap_draw.proofs.Acting.{obeys_fully, obeys_put, obeys_quietly, obeys_stop}
+use Rattle.nap_draw.proofs.Texts.{last_is_code, prefix_some, prefix_typed, repeat_is}
 use Rattle.nap_draw.proofs.work.Work.repeat.Goals as goal
 
 pub returns-then-get-eq0 : goal.returns-then-get-eq0
-unfolding walk repeated_chars
+unfolding repeated_chars
 returns-then-get-eq0 g c =
     let w = c.args.self.now in
     let none : c.args.count ≡ 0 = grind (arith, nat_tests) in
@@ -12,13 +12,7 @@ returns-then-get-eq0 g c =
     obeys_quietly g.S.Sink _ w w c.args.sink.now (g.met.S.Sink.took_none c.args.sink.now) (last ∙ rw none refl)
 
 pub returns-then-count_copies : goal.returns-then-count_copies
-returns-then-count_copies g c =
-    let w = c.args.self.now in
-    let last = ap (λ (o : Option LastChar). with_last o (λ last. Ok (rule_result w (repeated_chars w.state last c.args.count)))) c.in-Some.is in
-    rw last (obeys_fully g.S.Sink _ w _ _ _ (rw (c.from.ensures ∙ c.get-2.ensures.value) at c.count_copies.ensures.counted c.if-count_copies.true))
-
-pub characters-requires-clause-agrees : goal.characters-requires-clause-agrees
-characters-requires-clause-agrees g c = let kept = c.count_copies.ensures.kept c.if-count_copies.false in rw (kept.0, kept.1) c.requires
+returns-then-count_copies g c = grind (arith, obeys_fully)
 
 pub characters-requires-clause-made : goal.characters-requires-clause-made
 characters-requires-clause-made g c =
@@ -39,10 +33,4 @@ returns-in_err-characters g c =
     (some_put (sink_model_of g.S.Sink) (Unit {0}) _ _ _ _ _ (rw (kept.0, kept.1) at c.in_err-characters.ensures.put)))
 
 pub returns : goal.returns
-returns g c =
-    let w = c.args.self.now in
-    let last = c.in-Some.last in
-    let few : c.args.count < 64 = omega (arith, c.get.ensures.value, c.get.ensures.below) in
-    let by = repeat_is last c.args.count c.from-2.result (c.from-2.ensures ∙ c.get-3.ensures.value) few w c.in-Some.is (last_is_code w.state _ last c.requires c.in-Some.is) in
-    let kept = c.count_copies.ensures.kept c.if-count_copies.false in
-    rw (c.in_ok-characters.ensures.work, kept.0) (obeys_put g.S.Sink _ w _ _ _ _ by (rw (kept.0, kept.1) at c.in_ok-characters.ensures.put))
+returns g c = grind (arith, repeat_is, last_is_code, obeys_put)

@@ -1,6 +1,7 @@
-use Rattle.nap_draw.proofs.Common.{Colour, Components, Err, List, Ok, Work, ap₂, arith, clears_nothing, colour_of, length, nat_tests, operand_words, operands, refl, set_color_rule, set_color_under, sym, walk, ℕ, ◌<◌, ◌∙◌, ◌≡◌, ◌≤◌}
-use Rattle.nap_draw.proofs.Acting.{sets_does, does_as, does_refused}
-use Rattle.nap_draw.proofs.Attributes.{set_none, set_many, set_one}
+use Rattle.nap_draw.proofs.Common.{Base, Colour, Components, Err, List, Ok, Work, [], ap₂, arith, clears_nothing, colour_of, inl, inr, length, nat_tests, operand_words, operands, refl, rule_result, set_color_rule, set_color_under, sym, with_drawing, ℕ, ◌<◌, ◌∙◌, ◌≡◌, ◌≤◌, ◌⊎◌}
+use Rattle.nap_list.specs.declared.attribute.Origin.{Origin}
+use Rattle.nap_draw.proofs.Acting.{does_as, does_refused, sets_does}
+use Rattle.nap_draw.proofs.Results.{set_many, set_none, set_one}
 use Rattle.nap_draw.proofs.ByteRuns.{carried_length}
 use Rattle.nap_draw.proofs.work.Work.set_color.Goals as goal
 
@@ -23,34 +24,32 @@ returns-then-run-from g c =
     let many : k < length (operand_words c.args.run.now) = omega (arith, carried_length c.args.run.now, c.multi-size.ensures.value, c.from.ensures, c.if-run-from.true) in
     does_refused g.S.Sink _ (g.met.S.Sink.took_none _) _ _ _ _ (Err _) refl refl (set_many c.args.self.now k (operand_words c.args.run.now) some many)
 
+-- a colour of mode 0
+mode_zero : (w : Work) (colour : Colour) (grb : Components) → ((origin : Origin) × (colour ≡ Colour.Own origin)) ⊎ ((old : Components) × (colour ≡ Colour.Direct old)) →
+    set_color_under w colour grb ≡ Ok (rule_result (with_drawing w (record w.state.drawing { base = Base.Direct grb; colour = Colour.Direct grb })) [])
+mode_zero w colour grb (inl own) = rw own.1 refl
+mode_zero w colour grb (inr direct) = rw direct.1 refl
+
 pub returns-in-Own : goal.returns-in-Own
-unfolding walk
 returns-in-Own g c =
     let w = c.args.self.now in
-    let is = one_colour w _ _ c.args.run.now _ _ c.multi-size.ensures.value c.multi-size.ensures.least c.from.ensures (grind (arith, nat_tests)) c.if-run-from.false c.colour_bytes-grb.ensures c.in-Own.ensures in
-    rw c.set_direct_colour.ensures (sets_does g.S.Sink c.args.sink.now (g.met.S.Sink.took_none c.args.sink.now) ⊥ _ w _ (Ok (tt {0})) is)
-
-pub returns-in-Direct : goal.returns-in-Direct
-unfolding walk
-returns-in-Direct g c =
-    let w = c.args.self.now in
-    let is = one_colour w _ _ c.args.run.now _ _ c.multi-size.ensures.value c.multi-size.ensures.least c.from.ensures (grind (arith, nat_tests)) c.if-run-from.false c.colour_bytes-grb.ensures c.in-Direct.ensures in
-    rw c.set_direct_colour-in-Direct.ensures (sets_does g.S.Sink c.args.sink.now (g.met.S.Sink.took_none c.args.sink.now) ⊥ _ w _ (Ok (tt {0})) is)
+    let is = one_colour w _ _ c.args.run.now _ _ c.multi-size.ensures.value c.multi-size.ensures.least c.from.ensures (grind (arith, nat_tests)) c.if-run-from.false c.colour_bytes-grb.ensures refl in
+    sets_does g.S.Sink c.args.sink.now (g.met.S.Sink.took_none c.args.sink.now) ⊥ _ w _ (Ok (tt {0})) (is ∙ mode_zero w w.state.drawing.colour _ c.in-Own.is)
 
 pub returns-in-Front : goal.returns-in-Front
 returns-in-Front g c =
     let w = c.args.self.now in
-    let is = one_colour w _ _ c.args.run.now _ _ c.multi-size.ensures.value c.multi-size.ensures.least c.from.ensures (grind (arith, nat_tests)) c.if-run-from.false c.colour_bytes-grb.ensures c.in-Front.ensures in
+    let is = one_colour w _ _ c.args.run.now _ _ c.multi-size.ensures.value c.multi-size.ensures.least c.from.ensures (grind (arith, nat_tests)) c.if-run-from.false c.colour_bytes-grb.ensures (sym c.in-Front.is) in
     does_as g.S.Sink clears_nothing _ _ _ _ _ _ _ _ is c.put_map.ensures
 
 pub returns-in-Pair : goal.returns-in-Pair
 returns-in-Pair g c =
     let w = c.args.self.now in
-    let is = one_colour w _ _ c.args.run.now _ _ c.multi-size.ensures.value c.multi-size.ensures.least c.from.ensures (grind (arith, nat_tests)) c.if-run-from.false c.colour_bytes-grb.ensures c.in-Pair.ensures in
+    let is = one_colour w _ _ c.args.run.now _ _ c.multi-size.ensures.value c.multi-size.ensures.least c.from.ensures (grind (arith, nat_tests)) c.if-run-from.false c.colour_bytes-grb.ensures (sym c.in-Pair.is) in
     does_as g.S.Sink clears_nothing _ _ _ _ _ _ _ _ is c.put_map-in-Pair.ensures
 
 pub returns-in-ByReset : goal.returns-in-ByReset
 returns-in-ByReset g c =
     let w = c.args.self.now in
-    let is = one_colour w _ _ c.args.run.now _ _ c.multi-size.ensures.value c.multi-size.ensures.least c.from.ensures (grind (arith, nat_tests)) c.if-run-from.false c.colour_bytes-grb.ensures c.in-ByReset.ensures in
+    let is = one_colour w _ _ c.args.run.now _ _ c.multi-size.ensures.value c.multi-size.ensures.least c.from.ensures (grind (arith, nat_tests)) c.if-run-from.false c.colour_bytes-grb.ensures (sym c.in-ByReset.is) in
     does_refused g.S.Sink _ (g.met.S.Sink.took_none _) _ _ _ _ (Err _) refl refl is

@@ -1,6 +1,6 @@
 use Rattle.nap_draw.proofs.Common.{Err, ap, entries_result, option_map, pair_spans, refl, span_line_entry, ◌∙◌}
-use Rattle.nap_draw.proofs.Acting.{does_refused, does_unfilled, does_filled}
-use Rattle.nap_draw.proofs.Rows.{between_points}
+use Rattle.nap_draw.proofs.Acting.{does_filled, does_refused, does_unfilled}
+use Rattle.nap_draw.proofs.Results.{between_points}
 use Rattle.nap_draw.proofs.work.Work.set_line_abs.Goals as goal
 
 pub returns-in_err-require_pairs-clause-acts : goal.returns-in_err-require_pairs-clause-acts

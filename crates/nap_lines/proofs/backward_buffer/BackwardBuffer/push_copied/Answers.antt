@@ -17,14 +17,4 @@ invariant_of-self c =
     record { within = omega arith; utf8 = rw made (IsUtf8-append (drop from c.kept.inside.bytes) (drop end bytes) c.kept.invariant.utf8 c.self.invariant.utf8) }
 
 pub returns-clause-text : goal.returns-clause-text
-returns-clause-text c =
-    let end = c.self.inside.at in
-    let bytes = c.self.inside.bytes in
-    let from = c.kept.inside.from in
-    let size = ap length c.self.view_is in
-    let gone = length-drop end bytes in
-    let start = end - 16 in
-    last_put bytes c.copy_from_slice.new.self end start (end - start) (end - (16 - from)) from (omega arith) (omega arith) (omega arith) (omega arith) (omega arith)
-    ∙ ap (λ (kept : List ℕ). drop from kept ++ drop end bytes) c.copy_from_slice.ensures.after
-    ∙ ap (λ (front : List ℕ). front ++ drop end bytes) c.kept.view_is
-    ∙ ap (λ (rest : List ℕ). c.args.kept.now ++ rest) c.self.view_is
+returns-clause-text c = grind (arith, last_put)

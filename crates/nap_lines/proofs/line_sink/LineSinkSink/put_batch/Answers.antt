@@ -1,5 +1,5 @@
 use Rattle.nap_lines.proofs.Common.{TakesLinesOf, batch_entries, refl, some_taken, take}
-use Rattle.nap_lines.proofs.BatchLemmas.{lines_shows}
+use Rattle.nap_lines.proofs.PrintLemmas.{lines_shows}
 use Rattle.nap_lines.proofs.line_sink.LineSinkSink.put_batch.Goals as goal
 
 pub returns : goal.returns

@@ -1,5 +1,5 @@
 use Rattle.nap_lines.proofs.Common.{entry_of_shape}
-use Rattle.nap_lines.proofs.SinkLemmas.{shape_listed, shape_unlisted}
+use Rattle.nap_lines.proofs.PrintLemmas.{shape_listed, shape_unlisted}
 use Rattle.nap_lines.proofs.line_sink.LineSinkSink.put_shape.Goals as goal
 
 pub returns-in_err-write_shape_line : goal.returns-in_err-write_shape_line

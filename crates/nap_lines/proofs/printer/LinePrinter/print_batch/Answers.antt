@@ -1,4 +1,4 @@
-use Rattle.nap_lines.proofs.Common.{Printing, ap, arith, batch_entries, false, passes_none, sym, true, ◌∙◌, ◌≡◌}
+use Rattle.nap_lines.proofs.Common.{Printing, ap, arith, passes_none, true, ◌∙◌}
 use Rattle.nap_lines.proofs.PrintLemmas.{chunk, sent_on}
 use Rattle.nap_lines.proofs.printer.LinePrinter.print_batch.Goals as goal
 
@@ -19,10 +19,7 @@ pub invariant_of-self : goal.invariant_of-self
 invariant_of-self g c = record { space = c.loop-taken.invariant.memory; few = λ _. c.loop-taken.invariant.few }
 
 pub invariant_of-self-in_default : goal.invariant_of-self-in_default
-invariant_of-self-in_default g c = record {
-  space = omega (arith, c.loop-taken.invariant.memory, c.send_if_large.ensures.memory);
-  few = λ works. (let bad : true ≡ false = sym c.in_default.ensures.sent.1 ∙ works in cc);
-}
+invariant_of-self-in_default g c = grind arith
 
 -- a write failed
 pub returns-in_default : goal.returns-in_default
@@ -36,40 +33,11 @@ returns-in_default g c =
     )
 
 pub invariant_of-self-then-more-count : goal.invariant_of-self-then-more-count
-invariant_of-self-then-more-count g c =
-    let needs = c.write_batch-more.ensures.memory in
-    record {
-      space = omega (arith, c.loop-taken.invariant.memory, c.send_if_large.ensures.memory, needs.0);
-      few = λ _. omega (arith, c.in-Ok.ensures.few, needs.1, c.write_batch-more.ensures.count, c.min-count.ensures);
-    }
+invariant_of-self-then-more-count g c = grind arith
 
 -- memory ran out
 pub returns-then-more-count : goal.returns-then-more-count
-returns-then-more-count g c =
-    let at = c.loop-taken.invariant in
-    let sent = c.in-Ok.ensures.sent in
-    let short = c.write_batch-more.ensures.memory.2 (omega (arith, c.if-more-count.true)) in (
-      (
-        chunk _ _ _ (batch_entries c.args.batch.now) c.loop-taken.taken c.write_batch-more.result _ _ _ _ at.passes sent.0 c.write_batch-more.ensures.text,
-        sent.1 ∙ at.works,
-        omega (arith, at.space, at.memory, c.send_if_large.ensures.memory, c.in-Ok.ensures.few, c.min-count.ensures, short),
-      ),
-      omega (arith, c.if-more-count.true, c.min-count.ensures, c.len.ensures, c.len-in-loop-taken.ensures, c.loop-taken-test.true),
-      at.state,
-      at.space,
-    )
+returns-then-more-count g c = grind (arith, chunk)
 
 pub loop-taken-preserved : goal.loop-taken-preserved
-loop-taken-preserved g c =
-    let at = c.loop-taken.invariant in
-    let sent = c.in-Ok.ensures.sent in
-    let needs = c.write_batch-more.ensures.memory in
-    record {
-      within = omega (arith, c.write_batch-more.ensures.count, c.min-count.ensures, c.len.ensures, c.len-in-loop-taken.ensures, c.loop-taken-test.true);
-      passes = chunk _ _ _ (batch_entries c.args.batch.now) c.loop-taken.taken c.write_batch-more.result _ _ _ _ at.passes sent.0 c.write_batch-more.ensures.text;
-      works = sent.1 ∙ at.works;
-      state = at.state;
-      space = at.space;
-      memory = omega (arith, at.memory, c.send_if_large.ensures.memory, needs.0);
-      few = omega (arith, c.in-Ok.ensures.few, needs.1, c.write_batch-more.ensures.count, c.min-count.ensures);
-    }
+loop-taken-preserved g c = grind (arith, chunk)

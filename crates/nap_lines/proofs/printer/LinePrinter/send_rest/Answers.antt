@@ -8,4 +8,4 @@ returns-then-failed g c = closes_failed g.O.Outlet c.args.self.now (sym c.failed
 pub returns : goal.returns
 returns g c =
     let works = subst (λ (t : Printing _). g.O.Outlet.failed t.outlet ≡ false) (sym c.self.view_is) (sym c.failed.ensures ∙ c.if-failed.false) in
-    rw (← c.self.view_is) (closes_by g.O.Outlet _ _ _ c.send_buffered.new.buffered.items c.send_buffered.result works c.send_buffered.ensures.sent c.send_buffered.ensures.none)
+    rw (← c.self.view_is) (closes_by g.O.Outlet _ _ _ _ c.send_lines.result works c.as_slice-lines.ensures.value c.send_lines.ensures)

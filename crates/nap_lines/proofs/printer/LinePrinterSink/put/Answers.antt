@@ -1,4 +1,4 @@
-use Rattle.nap_lines.proofs.Common.{append-nil, append_assoc, walk, ◌∙◌}
+use Rattle.nap_lines.proofs.Common.{append-nil, append_assoc, arith, walk, ◌∙◌}
 use Rattle.nap_lines.proofs.PrintLemmas.{broke_one, took_one}
 use Rattle.nap_lines.proofs.printer.LinePrinterSink.put.Goals as goal
 
@@ -8,5 +8,4 @@ returns-in_default-clause-broke g c = λ _ works.
 
 pub returns-clause-took : goal.returns-clause-took
 unfolding walk
-returns-clause-took g c =
-    rw (← c.self.view_is) (took_one g.O.Outlet _ _ _ _ _ _ (c.in_ok-write_line.ensures.ok ∙ simp (append_assoc, append-nil)) _ _ c.in-Ok.ensures.sent c.after-self-inside.ensures)
+returns-clause-took g c = grind (arith, took_one, append_assoc, append-nil)

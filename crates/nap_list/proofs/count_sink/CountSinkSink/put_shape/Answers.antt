@@ -9,4 +9,4 @@ pub returns : goal.returns
 unfolding walk
 returns c =
     let took : CountsEntries c.args.self.now (entry_of_shape c.args.shape.now ∷ []) _ = record { count = omega (arith, c.in-Some.ensures); state = c.after_shape-self.ensures } in
-    record { took = took; state = took.state; works = λ works. refl; none = λ set. (let bad : ⊥ = cc in absurd bad) }
+    record { took = took; state = took.state; works = λ works. refl; none = λ set. cc }

@@ -12,15 +12,7 @@ returns-in-Err g c =
     let h = sink_model_of g.Self.Sink in
     let met = g.met.Self.Sink in
     let put = c.in-Err.ensures in
-    let is_put : NotTaken h c.loop-taken.self c.put.new.self c.entry.result c.in-Err.fault = record {
-      memory = put.memory;
-      wants = put.wants;
-      refuses = put.refuses;
-      write = put.write;
-      only_write = put.only_write;
-      broke = put.broke;
-      still = put.still;
-    } in
+    let is_put : NotTaken h c.loop-taken.self c.put.new.self c.entry.result c.in-Err.fault = search in
     next_stops h c.args.self.now c.loop-taken.self (batch_entries c.args.batch.now) c.loop-taken.taken (omega (arith, c.loop-taken-test.true, c.len-taken-end.ensures)) c.loop-taken.invariant
     (met.took_none c.loop-taken.self) met.took_more met.took_broke met.wants_more c.put.new.self c.entry.result _ c.in-Err.fault c.entry.ensures is_put
 

@@ -11,7 +11,7 @@ invariant_of-self c =
     let each : EachIsCurrent s (drop c.args.first list) = subst (λ (s : State). EachIsCurrent s (drop c.args.first list)) (sym c.self.view_is) c.requires.current in
     elim c.match-checked_sub.branch [
       | in-Some w ↦
-          rw w.self-inside-is (part_moved s _ _ _ _ _ c.self.invariant (rw w.self-inside-is at c.after_part-self-inside.ensures)
+          rw w.self-inside-is (part_moved s _ _ _ _ _ c.self.invariant (rw w.self-inside-is at c.left_by-self-inside.ensures)
           (batch_moves s _ c.args.batch.now c.args.first w.in-Some.further c.args.count (omega (arith, c.requires.few, w.in-Some.ensures)) each (omega (arith, w.in-Some.ensures)) w.pen_after-self-inside.ensures))
-      | in_default w ↦ rw w.self-inside-is (none_moved s _ _ _ _ _ c.self.invariant (rw w.self-inside-is at c.after_part-self-inside.ensures) (omega (arith, w.in_default.ensures)))
+      | in_default w ↦ rw w.self-inside-is (none_moved s _ _ _ _ _ c.self.invariant (rw w.self-inside-is at c.left_by-self-inside.ensures) (omega (arith, w.in_default.ensures)))
     ]

@@ -1,41 +1,23 @@
-use Rattle.nap_reader.proofs.{FramesIn, List, [], ap, arith, can_few, can_inside, drop, drop_all, false, length, length-drop, length-next, position_of, refl, subst, sym, true, unread, unread_of, ℕ, ◌∙◌, ◌≡◌, ◌≢◌, ◌≤◌}
+use Rattle.nap_reader.proofs.{FramesIn, List, [], ap, arith, can_few, can_inside, drop, drop_all, false, length, length-drop, length-next, position_of, refl, subst, true, unread, unread_of, ℕ, ◌≡◌, ◌≢◌, ◌≤◌}
 use Rattle.nap_reader.proofs.input.Input.advance.Goals as goal
 use Rattle.nap_reader.proofs.input.Input.advance.Goals.{After-take_from_innermost}
 
 pub overflow_add-self : goal.overflow_add-self
 overflow_add-self c =
     let input = c.args.self.now in
-    let few = c.requires.1.reads.few in
-    omega (arith, can_few c.requires.1, length-next (position_of input) c.requires.0, input.turned, few, input.small)
+    omega (arith, can_few c.requires.1, length-next (position_of input) c.requires.0, input.turned, c.requires.1.reads.few, input.small)
 
 pub overflow_add-self-then-is_empty : goal.overflow_add-self-then-is_empty
 overflow_add-self-then-is_empty c = omega (arith, c.requires.1.of_piece (c.if-is_empty.ensures.0 refl), c.requires.1.reads.small)
 
 pub returns-then-is_empty : goal.returns-then-is_empty
-returns-then-is_empty c =
-    let empty : unread_of c.args.self.now ≡ [] = ap (unread c.args.self.now.store.bytes) (c.if-is_empty.ensures.0 refl) in
-    record {
-      rest = empty ∙ sym (ap (drop c.args.count) empty ∙ drop_all c.args.count [] (omega arith));
-      at = omega (arith, ap length empty);
-      fed = omega (arith, ap length empty);
-      turns = refl;
-      budget = refl;
-      charged = omega arith;
-      promise = refl;
-      store_is = refl;
-      body = refl;
-    }
+returns-then-is_empty c = grind (arith, drop_all)
 
 -- what the innermost body has given
 given : (c : After-take_from_innermost) → (unread c.args.self.now.store.bytes c.take_from_innermost.new.self.stack.items ≡ drop c.args.count (unread_of c.args.self.now)) × (c.args.count ≤ length (unread_of c.args.self.now))
 given c =
-    let input = c.args.self.now in
-    let can = c.requires.1 in
-    let frames = input.frames.stack.items in
-    let some : frames ≢ [] = λ none. (let bad : false ≡ true = c.if-is_empty.ensures.1 none in cc) in (
-      subst (λ (stored : List ℕ). unread stored c.take_from_innermost.new.self.stack.items ≡ drop c.args.count (unread stored frames)) c.bytes.ensures (c.take_from_innermost.ensures.given can.of_body),
-      can_inside can some,
-    )
+    let some : c.args.self.now.frames.stack.items ≢ [] = λ none. (let bad : false ≡ true = c.if-is_empty.ensures.1 none in cc) in
+    (grind (arith, c.take_from_innermost.ensures.given c.requires.1.of_body), can_inside c.requires.1 some)
 
 pub invariant_of-self-else-is_empty-clause-turned : goal.invariant_of-self-else-is_empty-clause-turned
 invariant_of-self-else-is_empty-clause-turned c =

@@ -1,7 +1,6 @@
-use Rattle.nap_reader.proofs.{All, All-head, CharSet, Lexes, List, None, Option, Some, TextStep, AreCharacters, IsTextByte, alone_acts, alone_stops, ap, are_typed, arith, code_as, first_byte, format_effector, lexes_alone, refl, slice_get, subst, sym, ℕ, [], ◌++◌, ◌∙◌, ◌∷◌, ◌≡◌}
+use Rattle.nap_reader.proofs.{All, All-head, CharSet, Lexes, List, None, Option, Some, TextStep, AreCharacters, IsTextByte, alone_acts, alone_stops, ap, are_typed, arith, code_as, first_byte, format_effector, lexes_alone, refl, slice_get, subst, sym, ℕ, [], ◌++◌, ◌∙◌, ◌∷◌, ◌≡◌, Code}
 use Rattle.nap_codes.specs.Front as codes
 use Rattle.nap_codes.specs.Lexer.{LexerState}
-use Rattle.nap_reader.proofs.Common.{Code}
 use Rattle.nap_reader.proofs.machine.Machine.alone.Goals as goal
 use Rattle.nap_reader.proofs.machine.Machine.alone.Goals.{In_default-format_effector}
 
@@ -15,13 +14,13 @@ code_is lexer set text b step are typed is named =
     let (rest, begins) = first_byte text b is in
     are_typed lexer.sets set are.chars b (All-head IsTextByte b rest (subst (All IsTextByte) begins typed)) ∙ ap (λ (step : Option TextStep). codes.complete (code_as step set b) 1 lexer.sets) named
 
-pub effector-requires-clause-is : goal.effector-requires-clause-is
-effector-requires-clause-is g c =
+pub single-requires-clause-is : goal.single-requires-clause-is
+single-requires-clause-is g c =
     code_is c.args.self.now.lexer c.args.set c.args.text.now c.in-Some.byte.now (Some c.in-Some-format_effector.step) c.requires.set c.requires.typed (sym c.in-Some.ensures.value) (sym c.format_effector.ensures ∙ c.in-Some-format_effector.is)
 
 pub returns-in-Some-format_effector : goal.returns-in-Some-format_effector
 returns-in-Some-format_effector g c = λ ended following.
-    rw (first_byte c.args.text.now c.in-Some.byte.now (sym c.in-Some.ensures.value)).1 (c.effector.ensures ended _)
+    rw (first_byte c.args.text.now c.in-Some.byte.now (sym c.in-Some.ensures.value)).1 (c.single.ensures ended _)
 
 -- The byte is a character.
 character : (g : _) (c : In_default-format_effector g) → Lexes c.args.self.now c.in-Some.byte.now (Code.Char c.args.set c.in-Some.byte.now) c.args.self.now.lexer.sets

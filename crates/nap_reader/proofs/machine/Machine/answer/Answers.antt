@@ -52,14 +52,14 @@ returns-in-Err-clause-goes g c =
     let calls = turn_takes t in
     call_refuses t calls.1 calls.2 laws t.takes.leaves c.advance.ensures c.in-Err.ensures c.refuse.ensures.latched.is c.refuse.ensures.latched.sink)
 
-pub open_body-requires : goal.open_body-requires
-open_body-requires g c = (turn_takes (rw c.in-Define.is at c.requires.1)).0
+pub set_body-requires : goal.set_body-requires
+set_body-requires g c = (turn_takes (rw c.in-Define.is at c.requires.1)).0
 
 pub take_body-requires-clause-live : goal.take_body-requires-clause-live
 take_body-requires-clause-live g c = (rw c.in-Define.is at c.requires.1).takes.leaves.live
 
 pub take_body-requires-clause-reads : goal.take_body-requires-clause-reads
-take_body-requires-clause-reads g c = (turn_counts c.requires.1 (moves_then c.args.taken.count (omega arith) c.advance.ensures (stores_moves c.open_body.ensures refl) refl refl)).reads
+take_body-requires-clause-reads g c = (turn_counts c.requires.1 (moves_then c.args.taken.count (omega arith) c.advance.ensures (stores_moves c.set_body.ensures refl) refl refl)).reads
 
 pub returns-in-Define-clause-on : goal.returns-in-Define-clause-on
 returns-in-Define-clause-on g c = on_ok_by c.take_body.result (λ a is stop. cc)
@@ -68,7 +68,7 @@ pub returns-in-Define-clause-goes : goal.returns-in-Define-clause-goes
 returns-in-Define-clause-goes g c = λ old turn.
     let t = rw c.in-Define.is at turn in
     let adv = c.advance.ensures in
-    let first = turn_goes t (moves_then c.args.taken.count (omega arith) adv (stores_moves c.open_body.ensures refl) adv.store_is refl) (turn_takes t).1 refl t.takes.leaves in
+    let first = turn_goes t (moves_then c.args.taken.count (omega arith) adv (stores_moves c.set_body.ensures refl) adv.store_is refl) (turn_takes t).1 refl t.takes.leaves in
     MatchResult-weaker c.take_body.result c.take_body.ensures.goes (λ _ later. goes_then first later) (λ _ later. stops_then first.on later)
 
 pub advance-requires-in-Stop : goal.advance-requires-in-Stop

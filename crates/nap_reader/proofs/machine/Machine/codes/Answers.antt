@@ -15,68 +15,53 @@ code-requires-clause-closed g c = c.loop-count.invariant.closed c.loop-count-tes
 
 pub loop-count-preserved-in-Acted : goal.loop-count-preserved-in-Acted
 loop-count-preserved-in-Acted g c =
-    let slice = c.args.slice.now in
     let so = c.loop-count.invariant in
-    let less = c.loop-count-test.true in
-    record { takes = further slice.place slice.step slice.bytes.now so.takes less (takes_under (codes_from slice.place slice.step slice.bytes.now c.loop-count.count less c.in-Acted.ensures)) refl; closed = λ few. c.in-Acted.ensures.closed ∙ so.closed less }
+    record { takes = further _ _ _ so.takes c.loop-count-test.true (takes_under (codes_from _ _ _ _ c.loop-count-test.true c.in-Acted.ensures)) refl; closed = λ few. c.in-Acted.ensures.closed ∙ so.closed c.loop-count-test.true }
 
 pub returns-in-Clears-clause-takes : goal.returns-in-Clears-clause-takes
 returns-in-Clears-clause-takes g c =
-    let slice = c.args.slice.now in
-    let less = c.loop-count-test.true in
-    rw c.took_with.ensures (further slice.place slice.step slice.bytes.now c.loop-count.invariant.takes less (takes_under (codes_from slice.place slice.step slice.bytes.now c.loop-count.count less c.in-Clears.ensures)) refl)
+    rw c.took.ensures (further _ _ _ c.loop-count.invariant.takes c.loop-count-test.true (takes_under (codes_from _ _ _ _ c.loop-count-test.true c.in-Clears.ensures)) refl)
 
 pub returns-then-has_body-clause-takes : goal.returns-then-has_body-clause-takes
 returns-then-has_body-clause-takes g c =
-    let slice = c.args.slice.now in
-    let less = c.loop-count-test.true in
-    rw c.took_with-then-has_body.ensures (further slice.place slice.step slice.bytes.now c.loop-count.invariant.takes less (takes_under (codes_from slice.place slice.step slice.bytes.now c.loop-count.count less c.in-Calls.ensures)) refl)
+    rw c.took-then-has_body.ensures (further _ _ _ c.loop-count.invariant.takes c.loop-count-test.true (takes_under (codes_from _ _ _ _ c.loop-count-test.true c.in-Calls.ensures)) refl)
 
 pub loop-count-preserved-else-has_body : goal.loop-count-preserved-else-has_body
 loop-count-preserved-else-has_body g c =
-    let slice = c.args.slice.now in
     let so = c.loop-count.invariant in
-    let less = c.loop-count-test.true in
-    record { takes = further slice.place slice.step slice.bytes.now so.takes less (empty_call_takes (codes_from slice.place slice.step slice.bytes.now c.loop-count.count less c.in-Calls.ensures) (c.has_body.ensures.0 c.if-has_body.false)) refl; closed = λ few. c.in-Calls.ensures.closed ∙ so.closed less }
+    record { takes = further _ _ _ so.takes c.loop-count-test.true (empty_call_takes (codes_from _ _ _ _ c.loop-count-test.true c.in-Calls.ensures) (c.has_body.ensures.0 c.if-has_body.false)) refl; closed = λ few. c.in-Calls.ensures.closed ∙ so.closed c.loop-count-test.true }
 
 pub returns-in-Defines-clause-takes : goal.returns-in-Defines-clause-takes
 returns-in-Defines-clause-takes g c =
-    let slice = c.args.slice.now in
-    let less = c.loop-count-test.true in
-    rw c.took_with-in-Defines.ensures (further slice.place slice.step slice.bytes.now c.loop-count.invariant.takes less (takes_under (codes_from slice.place slice.step slice.bytes.now c.loop-count.count less c.in-Defines.ensures)) refl)
+    rw c.took-in-Defines.ensures (further _ _ _ c.loop-count.invariant.takes c.loop-count-test.true (takes_under (codes_from _ _ _ _ c.loop-count-test.true c.in-Defines.ensures)) refl)
 
 pub open-requires-clause-closed : goal.open-requires-clause-closed
 open-requires-clause-closed g c = c.in-Opens.ensures.closed ∙ c.loop-count.invariant.closed c.loop-count-test.true
 
 pub returns-in-Opens-clause-takes : goal.returns-in-Opens-clause-takes
 returns-in-Opens-clause-takes g c =
-    let slice = c.args.slice.now in
     let (n, is, takes) = c.open.ensures.takes in
-    further slice.place slice.step slice.bytes.now c.loop-count.invariant.takes c.loop-count-test.true (takes_under (rw c.in-Opens.ensures.within.0 at takes)) is
+    further _ _ _ c.loop-count.invariant.takes c.loop-count-test.true (takes_under (rw c.in-Opens.ensures.within.0 at takes)) is
 
 pub returns-in-Stopped-clause-takes : goal.returns-in-Stopped-clause-takes
 returns-in-Stopped-clause-takes g c =
-    let slice = c.args.slice.now in
-    let less = c.loop-count-test.true in
-    rw c.stop.ensures.answer (further slice.place slice.step slice.bytes.now c.loop-count.invariant.takes less (takes_under (stopped_from slice.place slice.step slice.bytes.now c.loop-count.count less c.in-Stopped.ensures (rw c.place_of.ensures at c.stop.ensures.kept))) refl)
+    rw c.stop.ensures.answer (further _ _ _ c.loop-count.invariant.takes c.loop-count-test.true (takes_under (stopped_from _ _ _ _ c.loop-count-test.true c.in-Stopped.ensures (rw c.place_of.ensures at c.stop.ensures.kept))) refl)
 
 pub other-taken-requires-clause-closed : goal.other-taken-requires-clause-closed
 other-taken-requires-clause-closed g c = c.in-Other.ensures.closed ∙ c.loop-count.invariant.closed c.loop-count-test.true
 
 pub returns-in_default-clause-takes : goal.returns-in_default-clause-takes
 returns-in_default-clause-takes g c =
-    let slice = c.args.slice.now in
     let (n, is, takes) = c.other-taken.ensures.takes in
-    further slice.place slice.step slice.bytes.now c.loop-count.invariant.takes c.loop-count-test.true (takes_under (idle_takes c.in-Other.ensures.within c.loop-count.invariant.takes.leaves.live (c.loop-count.invariant.closed c.loop-count-test.true) c.in-Other.ensures.closed takes)) is
+    further _ _ _ c.loop-count.invariant.takes c.loop-count-test.true (takes_under (idle_takes c.in-Other.ensures.within c.loop-count.invariant.takes.leaves.live (c.loop-count.invariant.closed c.loop-count-test.true) c.in-Other.ensures.closed takes)) is
 
 pub loop-count-preserved : goal.loop-count-preserved
 loop-count-preserved g c =
-    let slice = c.args.slice.now in
     let (n, is, takes) = c.other-taken.ensures.takes in
     record {
-      takes = further slice.place slice.step slice.bytes.now c.loop-count.invariant.takes c.loop-count-test.true (takes_under (idle_takes c.in-Other.ensures.within c.loop-count.invariant.takes.leaves.live (c.loop-count.invariant.closed c.loop-count-test.true) c.in-Other.ensures.closed (rw c.in-Nothing.is at takes))) is;
+      takes = further _ _ _ c.loop-count.invariant.takes c.loop-count-test.true (takes_under (idle_takes c.in-Other.ensures.within c.loop-count.invariant.takes.leaves.live (c.loop-count.invariant.closed c.loop-count-test.true) c.in-Other.ensures.closed (rw c.in-Nothing.is at takes))) is;
       closed = c.other-taken.ensures.closed c.in-Nothing.is;
     }
 
 pub returns-clause-takes : goal.returns-clause-takes
-returns-clause-takes g c = rw c.took.ensures c.loop-count.invariant.takes
+returns-clause-takes g c = rw c.took-2.ensures c.loop-count.invariant.takes

@@ -1,19 +1,13 @@
-use Rattle.nap_reader.proofs.{CannotShow, Lawful, Moves, None, StoreState, [], all_at, ap, arith, bound_goes, byte_stops, can_pass, false≢true, moves_then, own_fault, refl, shown_goes, shown_lacks, shown_stops, store_shown, stores_moves, subst, sym, ◌++◌, ◌∙◌, ◌∷◌}
-use Rattle.nap_reader.proofs.Common.{not-false, not-true}
+use Rattle.nap_reader.proofs.{CannotShow, Lawful, Moves, None, StoreState, [], all_at, ap, arith, bound_goes, byte_stops, can_pass, moves_then, own_fault, refl, shown_goes, shown_lacks, shown_stops, store_shown, stores_moves, subst, ◌++◌, ◌∷◌, not-false, not-true}
 use Rattle.nap_reader.proofs.machine.Machine.end_body.Goals as goal
 
 pub advance-requires : goal.advance-requires
 advance-requires g c = can_pass c.requires.next.1
 
-pub returns-then-at_rest-clause-goes : goal.returns-then-at_rest-clause-goes
-returns-then-at_rest-clause-goes g c = λ piece next.
+pub returns-then-not-body-clause-goes : goal.returns-then-not-body-clause-goes
+returns-then-not-body-clause-goes g c = λ piece next.
     bound_goes c.args.self.now c.requires.following next (not-true c.args.body.show c.if-not-body.true) c.bind.ensures
-    (record { live = record { live = c.requires.live.live; agrees = c.requires.live.agrees }; clear = λ clear. clear; spares = λ spared. spared }) (refl, refl, refl) (λ rested. c.escape.ensures)
-
-pub returns-else-at_rest-clause-goes : goal.returns-else-at_rest-clause-goes
-returns-else-at_rest-clause-goes g c = λ piece next.
-    bound_goes c.args.self.now c.requires.following next (not-true c.args.body.show c.if-not-body.true) c.bind.ensures
-    (record { live = record { live = c.requires.live.live; agrees = c.requires.live.agrees }; clear = λ clear. clear; spares = λ spared. spared }) (refl, refl, refl) (λ rested. absurd (false≢true (sym c.if-at_rest.false ∙ c.at_rest.ensures.rests.1 rested)))
+    (record { live = record { live = c.requires.live.live; agrees = c.requires.live.agrees }; clear = λ clear. clear; spares = λ spared. spared }) (refl, refl, refl) c.escape.ensures
 
 pub returns-in-Ok-clause-goes : goal.returns-in-Ok-clause-goes
 returns-in-Ok-clause-goes g c = λ piece next.

@@ -1,5 +1,4 @@
-use Rattle.nap_reader.proofs.{Joins, List, ap, arith, bytes_of-placed_by_step, clear_request_if, is_operand_byte, length, length-placed_by_step, length-take-le, operands_in, over_after, place_at, place_at-placed_by_step, placed_by_step, prefix_len, prefix_len-le-length, refl, run_acts, run_lacks, run_stops, run_too_long, run_waits, sym, takes_then, true, ℕ, ◌+◌, ◌<◌, ◌∙◌, ◌≡◌}
-use Rattle.nap_reader.proofs.Common.{vec_capacity, vec_len}
+use Rattle.nap_reader.proofs.{Joins, List, ap, arith, bytes_of-placed_by_step, clear_request_if, is_operand_byte, length, length-placed_by_step, length-take-le, operands_in, over_after, place_at, place_at-placed_by_step, placed_by_step, prefix_len, prefix_len-le-length, refl, run_acts, run_lacks, run_stops, run_too_long, run_waits, sym, takes_then, true, ℕ, ◌+◌, ◌<◌, ◌∙◌, ◌≡◌, vec_capacity, vec_len}
 use Rattle.nap_reader.specs.declared.machine.Machine.{Machine}
 use Rattle.nap_reader.proofs.machine.Machine.join.Goals as goal
 use Rattle.nap_reader.proofs.machine.Machine.join.Goals.{After-execute, Else-is_err}

@@ -2,12 +2,12 @@ use Rattle.nap_reader.proofs.{All-cons, All-nil, IsPlain, Lawful, Some, Store, [
 use Rattle.nap_reader.proofs.machine.Machine.keep.Goals as goal
 
 pub advance-requires : goal.advance-requires
-advance-requires g c = can_pass (next_same c.requires.next (stores_moves c.hold_escape.ensures refl))
+advance-requires g c = can_pass (next_same c.requires.next (stores_moves c.set_body.ensures refl))
 
 pub returns-then-next-eq27-clause-goes : goal.returns-then-next-eq27-clause-goes
 returns-then-next-eq27-clause-goes g c =
     body_goes c.args.self.now c.requires.open (lone_escape _ (placed_at c.args.next.byte c.args.next.place) c.if-next-eq27.true) (passes_next c.requires.next) (ap (take 1) c.requires.next.is)
-    (adds_none (moves_then 1 (omega arith) (stores_moves c.hold_escape.ensures refl) c.advance.ensures c.hold_escape.ensures.store_is c.hold_escape.ensures.body)) c.requires.live (omega arith)
+    (adds_none (moves_then 1 (omega arith) (stores_moves c.set_body.ensures refl) c.advance.ensures c.set_body.ensures.store_is c.set_body.ensures.body)) c.requires.live (omega arith)
 
 pub place_of-place-requires : goal.place_of-place-requires
 place_of-place-requires g c = omega (arith, c.body_prefix_len-count.ensures, prefix_len-le-length is_of_body c.in-Some.slice.bytes.now, c.if-count-space.true)

@@ -1,5 +1,4 @@
-use Rattle.nap_reader.proofs.{IsNextByte, Option, StoreState, [], ap, append_assoc, arith, body_goes, body_lacks, body_stops, bytes_of, can_pass, either_added, escape_added, escape_full, grown_moves, keep_lacks, length, length-append, moves_then, next_same, other_lacks, pair_added, pair_full, passes_next, placed_at, refl, same_input, store_limit, stores_moves, take, ℕ, ◌+◌, ◌-◌, ◌∙◌, ◌∷◌, ◌≡◌, ◌≢◌, ◌≤◌}
-use Rattle.nap_reader.proofs.Common.{unwrap_or}
+use Rattle.nap_reader.proofs.{IsNextByte, Option, StoreState, [], ap, append_assoc, arith, body_goes, body_lacks, body_stops, bytes_of, can_pass, either_added, escape_added, escape_full, grown_moves, keep_lacks, length, length-append, moves_then, next_same, other_lacks, pair_added, pair_full, passes_next, placed_at, refl, same_input, store_limit, stores_moves, take, ℕ, ◌+◌, ◌-◌, ◌∙◌, ◌∷◌, ◌≡◌, ◌≢◌, ◌≤◌, unwrap_or}
 use Rattle.nap_reader.proofs.machine.Machine.keep_escape.Goals as goal
 use Rattle.nap_reader.proofs.machine.Machine.keep_escape.Goals.{After-keep_escape, In-Ok}
 
@@ -42,16 +41,15 @@ returns-in_default-clause-goes g c =
 
 -- the ESC is of the body, and the byte still comes next
 still_next : (g : _) → (c : In-Ok g) → IsNextByte c.keep_escape.new.self c.args.piece.now c.args.next.byte c.args.next.place
-still_next g c =
-    next_same c.requires.next (grown_moves _ c.in-Ok.ensures.ok)
+still_next g c = next_same c.requires.next (grown_moves _ c.in-Ok.ensures.ok)
 
 pub advance-requires : goal.advance-requires
-advance-requires g c = can_pass (next_same (still_next g (goal.at.advance-requires g c).In-Ok) (stores_moves c.hold_escape.ensures refl))
+advance-requires g c = can_pass (next_same (still_next g (goal.at.advance-requires g c).In-Ok) (stores_moves c.set_body.ensures refl))
 
 pub returns-then-next-eq27-clause-goes : goal.returns-then-next-eq27-clause-goes
 returns-then-next-eq27-clause-goes g c =
     let first = c.in-Ok.ensures.ok in
-    let hold = c.hold_escape.ensures in
+    let hold = c.set_body.ensures in
     let following = c.requires.following in
     body_goes c.args.self.now following.opened (escape_added _ following.escape (placed_at c.args.next.byte c.args.next.place) c.if-next-eq27.true (omega (arith, c.space_left-space.ensures, c.if-space-eq0.false)))
     (passes_next c.requires.next) (ap (take 1) c.requires.next.is)
@@ -63,8 +61,7 @@ keep-requires-clause-next g c = passes_next (still_next g (goal.at.keep-requires
 -- the body has space for the byte after the ESC
 keep_requires : (g : _) → (c : In-Ok g) → 2 ≤ store_limit - c.args.input.now.store.stored - length c.args.input.now.store.body → c.keep_escape.new.self.store.stored + length c.keep_escape.new.self.store.body + 1 ≤ store_limit
 keep_requires g c two =
-    let grew = ap (λ (store : StoreState). store.stored + length store.body) c.in-Ok.ensures.ok.store_is in
-    omega (arith, grew, length-append c.args.input.now.store.body (27 ∷ []), two)
+    omega (arith, (ap (λ (store : StoreState). store.stored + length store.body) c.in-Ok.ensures.ok.store_is), length-append c.args.input.now.store.body (27 ∷ []), two)
 
 pub keep-requires-clause-few : goal.keep-requires-clause-few
 keep-requires-clause-few g c = keep_requires g (goal.at.keep-requires-clause-few g c).In-Ok (two_left g (goal.at.keep-requires-clause-few g c).After-keep_escape c.if-next-eq27.false)
@@ -88,7 +85,6 @@ returns-clause-goes g c =
     let keeps = c.in-Ok-keep.ensures.ok in
     body_goes c.args.self.now following.opened
     (pair_added _ following.escape (placed_at c.args.next.byte c.args.next.place) (record { low = c.requires.low; other = c.if-next-eq27.false }) following.ends (two_left g (goal.at.returns-clause-goes g c).After-keep_escape c.if-next-eq27.false))
-    (passes_next c.requires.next) (ap (take 1) c.requires.next.is)
-    (moves_then 1 (omega arith) (grown_moves _ first) keeps
+    (passes_next c.requires.next) (ap (take 1) c.requires.next.is) (moves_then 1 (omega arith) (grown_moves _ first) keeps
     (simp ((still_next g (goal.at.returns-clause-goes g c).In-Ok).is, first.store_is, append_assoc input.store.bytes (27 ∷ []) (c.args.next.byte ∷ []), append_assoc input.store.body (27 ∷ []) (c.args.next.byte ∷ [])) refl) first.body)
     c.requires.live (omega arith)

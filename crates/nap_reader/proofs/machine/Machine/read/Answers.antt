@@ -1,4 +1,4 @@
-use Rattle.nap_reader.proofs.{Reads, ReadsTo, StopsFrom, TakesSlice, ap, arith, comes_rested, err_from_is_err_and, length-placed_by_step, smaller, stops_then, subst, sym, turn_is, turn_less, ℕ, ◌*◌, ◌+◌, ◌-◌, ◌∙◌, ◌≡◌}
+use Rattle.nap_reader.proofs.{inl, Reads, ReadsTo, StopsFrom, TakesSlice, ap, arith, comes_rested, err_from_is_err_and, length-placed_by_step, smaller, stops_then, subst, sym, turn_is, turn_less, ℕ, ◌*◌, ◌+◌, ◌-◌, ◌∙◌, ◌≡◌}
 use Rattle.nap_reader.proofs.machine.Machine.read.Goals as goal
 use Rattle.nap_reader.proofs.machine.Machine.read.Goals.{After-place_of-place}
 
@@ -8,21 +8,19 @@ turned g c =
     let last : c.saturating_sub.result ≡ c.take-taken.result.count - 1 = omega (arith, c.saturating_sub.ensures) in
     turn_is c.loop-slice.invariant.reads c.loop-slice.invariant.ends c.in-Some.ensures c.take-taken.ensures.takes (c.place_of-place.ensures ∙ ap (λ (i : ℕ). c.in-Some.slice.place + c.in-Some.slice.step * i) last)
 
-pub define-requires-clause-reads : goal.define-requires-clause-reads
-define-requires-clause-reads g c = subst (λ i. Reads i c.args.piece.now) (sym c.begin_piece.ensures) (record { within = omega arith; small = omega (arith, c.requires.few); few = omega (arith, c.requires.few) })
+pub take_body-requires-clause-reads : goal.take_body-requires-clause-reads
+take_body-requires-clause-reads g c = subst (λ i. Reads i c.args.piece.now) (sym c.begin_piece.ensures) (record { within = omega arith; small = omega (arith, c.requires.few); few = omega (arith, c.requires.few) })
 
 pub loop-slice-init : goal.loop-slice-init
-loop-slice-init g c = record {
-  live = c.in_ok-define.ensures.live;
-  reads = c.in_ok-define.ensures.goes.counts.reads;
-  ends = c.in_ok-define.ensures.ends;
-  goes = λ old by. c.in_ok-define.ensures.goes.on old (subst (λ i. ReadsTo {S = g.row.S.Denot} {g = g.S.Sink} old c.args.piece.now c.args.self.now i) (sym c.begin_piece.ensures) by);
-}
+loop-slice-init g c = elim c.if-is_some.branch [
+  | goal.then-is_some+in_ok-take_body w ↦ rw (w.self-is, w.input-is) record { live = w.in_ok-take_body.ensures.live; reads = w.in_ok-take_body.ensures.goes.counts.reads; ends = w.in_ok-take_body.ensures.ends; goes = λ old by. w.in_ok-take_body.ensures.goes.on old (subst (λ i. ReadsTo {S = g.row.S.Denot} {g = g.S.Sink} old c.args.piece.now c.args.self.now i) (sym c.begin_piece.ensures) by) }
+  | goal.else-is_some w ↦ rw (w.self-is, w.input-is) record { live = c.requires.live; reads = subst (λ i. Reads i c.args.piece.now) (sym c.begin_piece.ensures) (record { within = omega arith; small = omega (arith, c.requires.few); few = omega (arith, c.requires.few) }); ends = inl (grind arith); goes = λ old by. subst (λ i. ReadsTo {S = g.row.S.Denot} {g = g.S.Sink} old c.args.piece.now c.args.self.now i) (sym c.begin_piece.ensures) by }
+]
 
-pub returns-in_err-define-clause-reads : goal.returns-in_err-define-clause-reads
-returns-in_err-define-clause-reads g c =
+pub returns-in_err-take_body-clause-reads : goal.returns-in_err-take_body-clause-reads
+returns-in_err-take_body-clause-reads g c =
     let e = err_from_is_err_and c.from_residual.result c.from_residual.ensures.1 in
-    rw e.1 (subst (λ i. StopsFrom {S = g.row.S.Denot} {g = g.S.Sink} c.args.piece.now c.args.self.now i c.define.new.self c.define.new.input) c.begin_piece.ensures c.in_err-define.ensures.goes)
+    rw e.1 (subst (λ i. StopsFrom {S = g.row.S.Denot} {g = g.S.Sink} c.args.piece.now c.args.self.now i c.take_body.new.self c.take_body.new.input) c.begin_piece.ensures c.in_err-take_body.ensures.goes)
 
 pub place_of-place-requires : goal.place_of-place-requires
 place_of-place-requires g c = omega (arith, c.take-taken.ensures.takes.within, length-placed_by_step c.in-Some.slice.place c.in-Some.slice.step c.in-Some.slice.bytes.now, c.saturating_sub.ensures)

@@ -1,6 +1,4 @@
-use Rattle.nap_reader.proofs.{kept_as, Define, Nothing, acting, arith, begins_after_escape, call_found, defining, found_acts, found_call, found_defines, found_nothing, found_stops, front_made, left_rested, nothing_found, refl}
-use Rattle.nap_reader.proofs.Common.{Code, front, ◌-◌, ◌∷◌}
-use Rattle.nap_reader.proofs.WholeCodeLemmas.{Drawing}
+use Rattle.nap_reader.proofs.{kept_as, Define, Nothing, acting, arith, begins_after_escape, call_found, defining, found_acts, found_call, found_defines, found_nothing, found_stops, front_made, left_rested, nothing_found, refl, Code, front, ◌-◌, ◌∷◌, Drawing}
 use Rattle.nap_reader.proofs.machine.Machine.rest_of_escape.Goals as goal
 use Rattle.nap_reader.proofs.machine.Machine.rest_of_escape.Goals.{In-Acts, In-Defines}
 
@@ -31,24 +29,16 @@ acts : (g : _) (c : In-Acts g) → Drawing c.args.self.now c.next_after_escape.n
 acts g c = acting _ _ (begins_after_escape c.requires.closed c.in-Acts.ensures.0) c.in-Acts.ensures.1 c.in-Acts.ensures.2
 
 pub control-requires-clause-made : goal.control-requires-clause-made
-control-requires-clause-made g c =
-    let drawn = acts g (goal.at.control-requires-clause-made g c).In-Acts in
-    front_made _ _ c.in-Acts.code _ _ drawn.ends.whole
+control-requires-clause-made g c = front_made _ _ c.in-Acts.code _ _ (acts g (goal.at.control-requires-clause-made g c).In-Acts).ends.whole
 
 pub overflow_sub-result-in-Ok : goal.overflow_sub-result-in-Ok
-overflow_sub-result-in-Ok g c =
-    let drawn = acts g (goal.at.overflow_sub-result-in-Ok g c).In-Acts in
-    omega (arith, drawn.ends.some)
+overflow_sub-result-in-Ok g c = omega (arith, (acts g (goal.at.overflow_sub-result-in-Ok g c).In-Acts).ends.some)
 
 pub overflow_sub-result-in-Err : goal.overflow_sub-result-in-Err
-overflow_sub-result-in-Err g c =
-    let drawn = acts g (goal.at.overflow_sub-result-in-Err g c).In-Acts in
-    omega (arith, drawn.ends.some)
+overflow_sub-result-in-Err g c = omega (arith, (acts g (goal.at.overflow_sub-result-in-Err g c).In-Acts).ends.some)
 
 pub overflow_sub-result-in-Err-2 : goal.overflow_sub-result-in-Err-2
-overflow_sub-result-in-Err-2 g c =
-    let drawn = acts g (goal.at.overflow_sub-result-in-Err-2 g c).In-Acts in
-    omega (arith, drawn.ends.some)
+overflow_sub-result-in-Err-2 g c = omega (arith, (acts g (goal.at.overflow_sub-result-in-Err-2 g c).In-Acts).ends.some)
 
 pub returns-in-Ok : goal.returns-in-Ok
 returns-in-Ok g c = λ ended.
@@ -66,19 +56,13 @@ defines : (g : _) (c : In-Defines g) → Drawing c.args.self.now c.next_after_es
 defines g c = defining _ _ (begins_after_escape c.requires.closed c.in-Defines.ensures.0) c.in-Defines.ensures.1 c.in-Defines.ensures.2
 
 pub overflow_sub-result-in-Ok-control : goal.overflow_sub-result-in-Ok-control
-overflow_sub-result-in-Ok-control g c =
-    let drawn = defines g (goal.at.overflow_sub-result-in-Ok-control g c).In-Defines in
-    omega (arith, drawn.ends.some)
+overflow_sub-result-in-Ok-control g c = omega (arith, (defines g (goal.at.overflow_sub-result-in-Ok-control g c).In-Defines).ends.some)
 
 pub overflow_sub-result-in-Err-control : goal.overflow_sub-result-in-Err-control
-overflow_sub-result-in-Err-control g c =
-    let drawn = defines g (goal.at.overflow_sub-result-in-Err-control g c).In-Defines in
-    omega (arith, drawn.ends.some)
+overflow_sub-result-in-Err-control g c = omega (arith, (defines g (goal.at.overflow_sub-result-in-Err-control g c).In-Defines).ends.some)
 
 pub overflow_sub-result-in-Err-control-2 : goal.overflow_sub-result-in-Err-control-2
-overflow_sub-result-in-Err-control-2 g c =
-    let drawn = defines g (goal.at.overflow_sub-result-in-Err-control-2 g c).In-Defines in
-    omega (arith, drawn.ends.some)
+overflow_sub-result-in-Err-control-2 g c = omega (arith, (defines g (goal.at.overflow_sub-result-in-Err-control-2 g c).In-Defines).ends.some)
 
 pub returns-in-Ok-control : goal.returns-in-Ok-control
 returns-in-Ok-control g c = λ ended.

@@ -19,8 +19,7 @@ keep_escape-requires-clause-next g c = next_byte c.loop-input.invariant.goes.cou
 
 pub returns-in_err-keep-in-None-clause-goes : goal.returns-in_err-keep-in-None-clause-goes
 returns-in_err-keep-in-None-clause-goes g c =
-    let e = err_from_is_err_and c.from_residual.result c.from_residual.ensures.1 in
-    rw e.1 (stops_then c.loop-input.invariant.goes.on c.in_err-keep-in-None.ensures.goes)
+    rw (err_from_is_err_and c.from_residual.result c.from_residual.ensures.1).1 (stops_then c.loop-input.invariant.goes.on c.in_err-keep-in-None.ensures.goes)
 
 pub returns-in_err-end_body-in-Some-escape-clause-goes : goal.returns-in_err-end_body-in-Some-escape-clause-goes
 returns-in_err-end_body-in-Some-escape-clause-goes g c =

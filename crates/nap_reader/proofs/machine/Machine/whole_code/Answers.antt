@@ -1,11 +1,9 @@
-use Rattle.nap_reader.proofs.{kept_as, Define, Nothing, acting, arith, begins_now, call_found, defining, found_acts, found_call, found_defines, found_fills, found_nothing, found_stops, found_within, front_made, left_rested, nothing_found, refl}
-use Rattle.nap_reader.proofs.Common.{Code, Kind, drop, front, is_fill, kind_of, length, length-drop, length-take-le, prefix_len-le-length, take, take_all, ◌-◌, ◌≡◌}
-use Rattle.nap_reader.proofs.WholeCodeLemmas.{Drawing, EndsWith}
+use Rattle.nap_reader.proofs.{kept_as, Define, Nothing, acting, arith, begins_now, call_found, defining, found_acts, found_call, found_defines, found_fills, found_nothing, found_stops, found_within, front_made, left_rested, nothing_found, refl, Code, Kind, drop, front, is_fill, kind_of, length, length-drop, length-take-le, prefix_len-le-length, take, take_all, ◌-◌, ◌≡◌, Drawing, EndsWith}
 use Rattle.nap_reader.proofs.machine.Machine.whole_code.Goals as goal
 use Rattle.nap_reader.proofs.machine.Machine.whole_code.Goals.{In-Acts, In-Defines, In-Nothing-eq1}
 
 -- A code of one byte that adds nothing was found.
-one : (g : _) (c : In-Nothing-eq1 g) → (adding : Code) × EndsWith c.args.self.now c.args.bytes.now 1 adding c.next.new.self.sets × (kind_of adding ≡ Kind.AddsNothing)
+one : (g : _) (c : In-Nothing-eq1 g) → (adding : Code) × EndsWith c.args.self.now c.args.bytes.now 1 adding c.next.new.self.sets × (kind_of adding ≡ Kind.adds_nothing)
 one g c =
     let sets = c.args.self.now.lexer.sets in
     let single : c.in-Nothing-eq1.field-0 ≡ 1 = omega arith in
@@ -48,19 +46,13 @@ acts : (g : _) (c : In-Acts g) → Drawing c.args.self.now c.next.new.self c.arg
 acts g c = acting _ _ (begins_now c.requires.closed c.in-Acts.ensures.0) c.in-Acts.ensures.1 c.in-Acts.ensures.2
 
 pub control-requires-clause-made : goal.control-requires-clause-made
-control-requires-clause-made g c =
-    let drawn = acts g (goal.at.control-requires-clause-made g c).In-Acts in
-    front_made _ _ c.in-Acts.code _ _ drawn.ends.whole
+control-requires-clause-made g c = front_made _ _ c.in-Acts.code _ _ (acts g (goal.at.control-requires-clause-made g c).In-Acts).ends.whole
 
 pub overflow_sub-result : goal.overflow_sub-result
-overflow_sub-result g c =
-    let drawn = acts g (goal.at.overflow_sub-result g c).In-Acts in
-    omega (arith, drawn.ends.some)
+overflow_sub-result g c = omega (arith, (acts g (goal.at.overflow_sub-result g c).In-Acts).ends.some)
 
 pub overflow_sub-result-in-Err : goal.overflow_sub-result-in-Err
-overflow_sub-result-in-Err g c =
-    let drawn = acts g (goal.at.overflow_sub-result-in-Err g c).In-Acts in
-    omega (arith, drawn.ends.some)
+overflow_sub-result-in-Err g c = omega (arith, (acts g (goal.at.overflow_sub-result-in-Err g c).In-Acts).ends.some)
 
 pub returns-in-Ok : goal.returns-in-Ok
 returns-in-Ok g c = λ ended.
@@ -78,14 +70,10 @@ defines : (g : _) (c : In-Defines g) → Drawing c.args.self.now c.next.new.self
 defines g c = defining _ _ (begins_now c.requires.closed c.in-Defines.ensures.0) c.in-Defines.ensures.1 c.in-Defines.ensures.2
 
 pub overflow_sub-result-in-Err-control : goal.overflow_sub-result-in-Err-control
-overflow_sub-result-in-Err-control g c =
-    let drawn = defines g (goal.at.overflow_sub-result-in-Err-control g c).In-Defines in
-    omega (arith, drawn.ends.some)
+overflow_sub-result-in-Err-control g c = omega (arith, (defines g (goal.at.overflow_sub-result-in-Err-control g c).In-Defines).ends.some)
 
 pub overflow_sub-result-in-Err-control-2 : goal.overflow_sub-result-in-Err-control-2
-overflow_sub-result-in-Err-control-2 g c =
-    let drawn = defines g (goal.at.overflow_sub-result-in-Err-control-2 g c).In-Defines in
-    omega (arith, drawn.ends.some)
+overflow_sub-result-in-Err-control-2 g c = omega (arith, (defines g (goal.at.overflow_sub-result-in-Err-control-2 g c).In-Defines).ends.some)
 
 pub returns-in-Ok-control : goal.returns-in-Ok-control
 returns-in-Ok-control g c = λ ended.

@@ -1,4 +1,4 @@
-use Rattle.nap_reader.proofs.{arith, opcode_alone, opens_drawn, refl}
+use Rattle.nap_reader.proofs.{are_characters, opcode_alone, opens_drawn, refl}
 use Rattle.nap_reader.proofs.Common.{Code}
 use Rattle.nap_reader.proofs.machine.codes.front_of.Goals as goal
 
@@ -8,9 +8,4 @@ returns-in-Some c =
     record { rested = ((c.opcode.ensures.is c.in-Some.op).0 c.in-Some.is).0; drawn = opens_drawn _ _ (Code.Op c.in-Some.op) _ _ _ front refl; alone = opcode_alone _ _ _ front; names = front }
 
 pub returns-in-Some-char_set : goal.returns-in-Some-char_set
-returns-in-Some-char_set c =
-    let chars = (c.char_set.ensures c.in-Some-char_set.set).0 c.in-Some-char_set.is in
-    record { rested = (chars 0x20 (omega arith, omega arith)).0; chars = λ b graphic. (chars b graphic).1 }
-
-pub returns-in-None-char_set : goal.returns-in-None-char_set
-returns-in-None-char_set c = (((c.format_effector.ensures.is c.in-Some-format_effector.step).0 c.in-Some-format_effector.is).0, c.in-Some-format_effector.ensures.front)
+returns-in-Some-char_set c = are_characters ((c.char_set.ensures c.in-Some-char_set.set).0 c.in-Some-char_set.is)

@@ -1,6 +1,4 @@
-use Rattle.nap_reader.proofs.Common.{[], arith}
-use Rattle.nap_reader.proofs.ReadingLemmas.{begins}
-use Rattle.nap_reader.proofs.HasReadLemmas.{has_read_by}
+use Rattle.nap_reader.proofs.{[], arith, begins, has_read_by}
 use Rattle.nap_reader.proofs.reader.Reader.again.Goals as goal
 
 pub returns-in-Ok-clause-has_read : goal.returns-in-Ok-clause-has_read

@@ -1,5 +1,4 @@
-use Rattle.nap_reader.proofs.Common.{Ahead, IsOpcode}
-use Rattle.nap_reader.proofs.{AllCharacters, List, None, Some, ap, arith, at_prefix, budget_of, first_byte, is_of_text, is_operand_byte, opcode_alone, prefix_len, slice_get, subst, sym, ℕ, ◌+◌, ◌∙◌, ◌≡◌}
+use Rattle.nap_reader.proofs.{AllCharacters, List, None, Some, ap, arith, at_prefix, budget_of, first_byte, is_of_text, is_operand_byte, opcode_alone, prefix_len, slice_get, subst, sym, ℕ, ◌+◌, ◌∙◌, ◌≡◌, Ahead, IsOpcode}
 use Rattle.nap_reader.proofs.AheadLemmas.{after_first, closed_by_characters, no_operand, opcode_adds, text_adds}
 use Rattle.nap_reader.proofs.reader.Reader.ahead.Goals as goal
 use Rattle.nap_reader.proofs.reader.Reader.ahead.Goals.{then-byte-lt64+in_default-opcode, else-byte-lt64}
@@ -21,15 +20,13 @@ returns-then-count-gt0-clause-adds_entries g c = λ live s p has_read.
     let set = c.in-Some-char_set.field-0 in
     let chars = (c.char_set.ensures set).0 c.in-Some-char_set.is in
     let are : AllCharacters machine.lexer.sets set = λ b graphic. (chars b graphic).1 in
-    text_adds (budget_of c.args.self.now) p piece c.text_bytes-count.result.now (has_read.continues live)
-    (record {
+    text_adds (budget_of c.args.self.now) p piece c.text_bytes-count.result.now (has_read.continues live) (record {
       between = c.in_default-body.is;
       closed = closed_by_characters machine.lexer set machine.open_run machine.drawing are;
       rested = (chars 0x20 (omega arith, omega arith)).0;
       chars = are;
       typed = c.text_bytes-count.ensures.typed;
-    })
-    (at_prefix is_of_text piece c.text_bytes-count.result.now c.text_bytes-count.ensures.bytes).1
+    }) (at_prefix is_of_text piece c.text_bytes-count.result.now c.text_bytes-count.ensures.bytes).1
 
 -- an opcode is counted with all its operands
 pub returns-in-Some-opcode-clause-counts : goal.returns-in-Some-opcode-clause-counts

@@ -1,6 +1,6 @@
-use Rattle.nap_reader.proofs.{Ends, EndsRun, IsTaken, Lawful, List, None, Option, Outcome, Refusal, Some, HasRead, ap, begun, body_ended, cause_of, device, ended_is, false, reading_state, if_err_map, leads_unrefused, means, on_ok_map, own_spares, run_breaks, run_refused, stream, subst, sym, true, with_code, with_run, ℕ, ◌∙◌, ◌≡◌}
+use Rattle.nap_reader.proofs.{Ends, EndsRun, IsTaken, Lawful, List, None, Option, Outcome, Refusal, Some, HasRead, ap, begun, body_ended, cause_of, device, ended_is, false, reading_state, IfErr-weaker, leads_unrefused, means, on_ok_weaker, own_spares, run_breaks, run_refused, stream, subst, sym, true, with_code, with_run, ℕ, ◌∙◌, ◌≡◌}
 use Rattle.nap_reader.proofs.reader.Reader.end.Goals as goal
-use Rattle.nap_reader.proofs.reader.Reader.end.Goals.{After-check_finished, In_default-end_run}
+use Rattle.nap_reader.proofs.reader.Reader.end.Goals.{After-check_finished}
 
 pub returns-in-Some-body-clause-refused : goal.returns-in-Some-body-clause-refused
 returns-in-Some-body-clause-refused g c = λ own s p h.
@@ -27,27 +27,26 @@ settled g c ends answer so s p h =
 
 pub returns-clause-ended : goal.returns-clause-ended
 returns-clause-ended g c =
-    on_ok_map c.check_finished.result c.check_finished.ensures.ended (settled g (goal.at.returns-clause-ended g c).After-check_finished c.in_default-end_run.ensures.ends None)
+    on_ok_weaker c.check_finished.result (settled g (goal.at.returns-clause-ended g c).After-check_finished c.in_default-end_run.ensures.ends None) c.check_finished.ensures.ended
 
 pub returns-clause-refused : goal.returns-clause-refused
 returns-clause-refused g c =
-    if_err_map c.check_finished.result c.check_finished.ensures.refused (λ f so own. settled g (goal.at.returns-clause-refused g c).After-check_finished c.in_default-end_run.ensures.ends (Some f) so.1)
+    IfErr-weaker c.check_finished.result _ _ (λ f so own. settled g (goal.at.returns-clause-refused g c).After-check_finished c.in_default-end_run.ensures.ends (Some f) so.1) c.check_finished.ensures.refused
 
 pub returns-clause-failed : goal.returns-clause-failed
 returns-clause-failed g c =
-    if_err_map c.check_finished.result c.check_finished.ensures.refused (λ f so live broken. let bad : device ≡ stream = sym (ap cause_of broken) ∙ so.0 in cc)
+    IfErr-weaker c.check_finished.result _ _ (λ f so live broken. let bad : device ≡ stream = sym (ap cause_of broken) ∙ so.0 in cc) c.check_finished.ensures.refused
 
 pub returns-clause-kept : goal.returns-clause-kept
 returns-clause-kept g c =
-    if_err_map c.check_finished.result c.check_finished.ensures.refused
-    (λ f so working fails. let bad : true ≡ false = sym fails ∙ ap g.S.Sink.failed c.check_finished.ensures.sink ∙ c.in_default-end_run.ensures.works.clear working in cc)
+    IfErr-weaker c.check_finished.result _ _ (λ f so working fails. let bad : true ≡ false = sym fails ∙ ap g.S.Sink.failed c.check_finished.ensures.sink ∙ c.in_default-end_run.ensures.works.clear working in cc) c.check_finished.ensures.refused
 
 pub returns-clause-clear : goal.returns-clause-clear
 returns-clause-clear g c =
-    on_ok_map c.check_finished.result c.check_finished.ensures.ended (λ so working. ap g.S.Sink.failed c.check_finished.ensures.sink ∙ c.in_default-end_run.ensures.works.clear working)
+    on_ok_weaker c.check_finished.result (λ so working. ap g.S.Sink.failed c.check_finished.ensures.sink ∙ c.in_default-end_run.ensures.works.clear working) c.check_finished.ensures.ended
 
 pub returns-in-Err-clause-lacks : goal.returns-in-Err-clause-lacks
 returns-in-Err-clause-lacks g c = λ live spared. c.in-Err.ensures.ends.2 spared
 
 pub returns-clause-lacks : goal.returns-clause-lacks
-returns-clause-lacks g c = if_err_map c.check_finished.result c.check_finished.ensures.refused (λ f so live spared. own_spares so.0)
+returns-clause-lacks g c = IfErr-weaker c.check_finished.result _ _ (λ f so live spared. own_spares so.0) c.check_finished.ensures.refused

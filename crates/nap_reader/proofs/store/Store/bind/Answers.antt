@@ -1,5 +1,4 @@
-use Rattle.nap_reader.proofs.{◌∙◌}
-use Rattle.nap_reader.proofs.NextByteLemmas.{bound}
+use Rattle.nap_reader.proofs.{◌∙◌, bound}
 use Rattle.nap_reader.proofs.store.Store.bind.Goals as goal
 
 pub returns : goal.returns

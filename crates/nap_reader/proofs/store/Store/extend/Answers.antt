@@ -1,5 +1,4 @@
-use Rattle.nap_reader.proofs.{arith, grown_by, on_ok_by}
-use Rattle.nap_reader.proofs.NextByteLemmas.{still_known}
+use Rattle.nap_reader.proofs.{arith, grown_by, on_ok_by, still_known}
 use Rattle.nap_reader.proofs.store.Store.extend.Goals as goal
 
 pub returns-then-bytes-ne1-clause-ok : goal.returns-then-bytes-ne1-clause-ok

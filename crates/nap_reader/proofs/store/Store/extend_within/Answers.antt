@@ -1,5 +1,4 @@
-use Rattle.nap_reader.proofs.{StoreState, ap, arith, store_grown, grown_by, length, length-sublist, on_ok_by, sublist, ◌+◌, ◌∙◌}
-use Rattle.nap_reader.proofs.NextByteLemmas.{still_known}
+use Rattle.nap_reader.proofs.{StoreState, ap, arith, store_grown, grown_by, length, length-sublist, on_ok_by, sublist, ◌+◌, ◌∙◌, still_known}
 use Rattle.nap_reader.proofs.store.Store.extend_within.Goals as goal
 
 pub returns-clause-ok : goal.returns-clause-ok

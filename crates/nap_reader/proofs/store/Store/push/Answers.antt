@@ -1,5 +1,4 @@
-use Rattle.nap_reader.proofs.{[], arith, grown_by, true, ◌∷◌}
-use Rattle.nap_reader.proofs.NextByteLemmas.{still_known}
+use Rattle.nap_reader.proofs.{[], arith, grown_by, true, ◌∷◌, still_known}
 use Rattle.nap_reader.proofs.store.Store.push.Goals as goal
 
 pub returns-clause-ok : goal.returns-clause-ok

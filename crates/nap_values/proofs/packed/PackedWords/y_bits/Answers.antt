@@ -1,11 +1,10 @@
-use Rattle.nap_values.proofs.Common.{All, ap, subst, sym, value_of, words_in, y_in, ◌<◌, ◌∙◌}
+use Rattle.nap_values.proofs.Common.{ap, value_of, words_in, y_in, ◌∙◌}
 use Rattle.nap_values.proofs.SpellingLemmas.{y_digits-below}
 use Rattle.nap_values.proofs.PackedLemmas.{y_digits_are, y_in-below}
 use Rattle.nap_values.proofs.packed.PackedWords.y_bits.Goals as goal
 
 pub collected_digits-requires : goal.collected_digits-requires
-collected_digits-requires c =
-    subst (All (λ d. d < 8)) (sym (y_digits_are _ c.self.invariant)) (y_digits-below (words_in _) c.self.invariant)
+collected_digits-requires c = rw (y_digits_are _ c.self.invariant) (y_digits-below (words_in _) c.self.invariant)
 
 pub returns-clause-value : goal.returns-clause-value
 unfolding y_in
@@ -13,5 +12,4 @@ returns-clause-value c = rw (← c.self.view_is) (c.collected_digits.ensures ∙
 
 pub returns-clause-below : goal.returns-clause-below
 unfolding y_in
-returns-clause-below c =
-    subst (λ n. n < 16777216) (sym (c.collected_digits.ensures ∙ ap (value_of 8 8) (y_digits_are _ c.self.invariant))) (y_in-below _ c.self.invariant)
+returns-clause-below c = rw (c.collected_digits.ensures, y_digits_are _ c.self.invariant) (y_in-below _ c.self.invariant)

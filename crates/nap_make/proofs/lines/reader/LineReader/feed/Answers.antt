@@ -1,5 +1,6 @@
 use Rattle.nap_make.proofs.Common.{List, StopsLines, err_from_is_err_and, subst, sym, ℕ, ◌++◌}
-use Rattle.nap_make.proofs.FeedLemmas.{HasReadTo, ended_ready, next_parts, read_before, read_last, read_more, ready_last, uncut}
+use Rattle.nap_make.proofs.CutLemmas.{uncut}
+use Rattle.nap_make.proofs.FeedLemmas.{HasReadTo, ended_ready, next_parts, read_before, read_last, read_more, ready_last}
 use Rattle.nap_make.proofs.lines.reader.LineReader.feed.Goals as goal
 
 pub loop-next-init : goal.loop-next-init
@@ -29,11 +30,11 @@ loop-next-preserved g c =
     }
 
 pub keep_part-requires : goal.keep_part-requires
-keep_part-requires g c = (c.loop-next.invariant.ready, uncut c.loop-next.rest.now c.in_default.ensures)
+keep_part-requires g c = (c.loop-next.invariant.ready, uncut 10 c.loop-next.rest.now c.in_default.ensures)
 
 pub returns-clause-ready : goal.returns-clause-ready
 returns-clause-ready g c =
-    ready_last g.S.Sink c.loop-next.self c.keep_part.new.self c.loop-next.rest.now c.keep_part.result c.loop-next.invariant.ready (uncut c.loop-next.rest.now c.in_default.ensures)
+    ready_last g.S.Sink c.loop-next.self c.keep_part.new.self c.loop-next.rest.now c.keep_part.result c.loop-next.invariant.ready (uncut 10 c.loop-next.rest.now c.in_default.ensures)
     c.keep_part.ensures.part c.keep_part.ensures.maker c.keep_part.ensures.short
 
 pub returns-clause-feeds : goal.returns-clause-feeds

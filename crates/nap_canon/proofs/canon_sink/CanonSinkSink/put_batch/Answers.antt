@@ -1,0 +1,8 @@
+use Rattle.nap_canon.proofs.Common.{Canonical, Drawing, FirstIsCurrent, ap, refl, subst, ◌∙◌}
+use Rattle.nap_canon.proofs.sinks.PutLemmas.{each_current}
+use Rattle.nap_canon.proofs.canon_sink.CanonSinkSink.put_batch.Goals as goal
+
+pub put_current-requires-clause-current : goal.put_current-requires-clause-current
+put_current-requires-clause-current g c =
+    each_current c.args.batch.now c.args.self.now.state
+    (subst (λ (d : Drawing). FirstIsCurrent c.args.batch.now d) (c.drawing.ensures ∙ ap (λ (s : Canonical _). s.state.drawing) c.self.view_is) (c.if-batch_begins_current.ensures.0 refl))
