@@ -35,18 +35,24 @@ def line(words):
     return " ".join([words, *fields(KINDS[words])])
 
 
+def named(source, kind):
+    """The names of a type's values in a source, each with its value, by `named!` and by comparisons."""
+    calls = re.findall(r"named!\(\w+, %s:(.*?)\)" % kind, text(source), re.DOTALL)
+    return [*re.findall(r'b"([\w-]+)" => (\w+)', " ".join(calls)),
+            *re.findall(r'b"([\w-]+)"\) => Some\(%s::(\w+)\)' % kind, text(source))]
+
+
 def of_sources():
     """The table as crates/nap_make has it."""
     kinds = text("crates/nap_make/src/kind.rt")
-    words = {kind: name for name, kind in re.findall(r'b"([A-Z-]+)"[^:]*?Some\(Kind::(\w+)\)', kinds)}
+    words = {kind: name for name, kind in named("crates/nap_make/src/kind.rt", "Kind")}
     more = re.findall(r'Kind::(\w+) => match rest_after\(rest, b"(\w+) "\) \{\s*Some\(others\) => Some\(\(Kind::(\w+),',
                       kinds)
     words.update({kind: f"{words[first]} {second}" for first, second, kind in more})
-    ink = re.search(r"const INK: &\[Sort\] = &\[(.*)\];", kinds)[1]
     least = dict(re.findall(r"least_points Kind\.(\w+) = (\d+)", text("crates/nap_make/specs/Kinds.antt")))
-    rows = dict.fromkeys(re.findall(r'b"([A-Z]+)" => Some\(Entry', text("crates/nap_make/src/reading.rt")), "")
-    for names, front, last in re.findall(r"((?:Kind::\w+[ |]+)+)=> Row::of\(\s*(INK|&\[.*?\]),\s*(\w+)", kinds):
-        row = " ".join(re.findall(r"(?:Sort::)?(\w+)", f"{ink if front == 'INK' else front} {last}"))
+    rows = {name: "" for name, _ in named("crates/nap_make/src/reading.rt", "Entry")}
+    for names, front, last in re.findall(r"((?:Kind::\w+[ |]+)+)=> \{?\s*\(&\[(.*?)\], (\w+)\)", kinds):
+        row = " ".join(re.findall(r"\w+", f"{front} {last}"))
         for kind in re.findall(r"Kind::(\w+)", names):
             points = "Point " * int(least[kind]) + ".. " if kind in least else ""
             rows[words.pop(kind)] = points + row
@@ -56,8 +62,8 @@ def of_sources():
 
 def test_the_table_is_that_of_the_sources():
     assert of_sources() == KINDS
-    choices = re.findall(r'b"(\w+)" => Some\((?:CharSet|CursorKind|Mask|TextStep)::',
-                         text("crates/nap_make/src/attribute.rt"))
+    choices = [name for kind in ("CharSet", "CursorKind", "Mask", "TextStep")
+               for name, _ in named("crates/nap_make/src/attribute.rt", kind)]
     assert sorted(choices) == sorted(name for names in CHOICES.values() for name in names)
 
 
