@@ -108,7 +108,7 @@ COMMANDS = (["files"], ["equal"], ["find", "hello"], ["census"])
 def test_killed_at_twenty_moments_it_has_the_tables_of_one_that_was_not(run, naplps, tmp_path, store):
     """Between the scans a command makes the indices, or none does."""
     pages = tree(os.path.join(str(tmp_path), "pages"), mixed(6000))
-    # (a store whose first scan was killed before it began is a new one still)
+    # (a store whose first scan was killed before it began is still a new one)
     words = ["scan", pages, "--no-words", "--no-cures", "--into"]
     chance = random.Random(7)
     for number in range(20):
