@@ -1,35 +1,7 @@
-// Refuses each call of the allocator in turn, and then all from one on: heap PAGE... It is linked with --wrap for
-// malloc, realloc and free, so that the library's own calls come here. Each answer is the one with memory, or the
-// refusal for lack of it. Each page is tried as it is, and with a byte after it that is refused.
+// Refuses each call of the allocator in turn, and then all from one on: heap PAGE... Each answer is the one with memory,
+// or the refusal for lack of it. Each page is tried as it is, and with a byte after it that is refused.
 #include "calls.h"
-
-void *__real_malloc(size_t size);
-void *__real_realloc(void *block, size_t size);
-void __real_free(void *block);
-
-static long live, calls, first, last;
-
-static int refuses(void) {
-    calls++;
-    return first <= calls && calls <= last;
-}
-
-void *__wrap_malloc(size_t size) {
-    if (refuses()) return NULL;
-    live++;
-    return __real_malloc(size);
-}
-
-void *__wrap_realloc(void *block, size_t size) {
-    if (refuses()) return NULL;
-    live += block == NULL;
-    return __real_realloc(block, size);
-}
-
-void __wrap_free(void *block) {
-    live -= block != NULL;
-    __real_free(block);
-}
+#include "refusing.h"
 
 static uint8_t page[1 << 16];
 static uint8_t room[1 << 20], kept[1 << 20];

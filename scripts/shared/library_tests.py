@@ -6,6 +6,8 @@ from typing import List, Sequence
 from shared.layout import LIBRARY, stop
 
 TESTS = LIBRARY / "tests"
+# For a test with the allocator of refusing.h.
+WRAPPED = ["-Wl,--wrap=malloc,--wrap=realloc,--wrap=free"]
 STRICT = ["-std=c11", "-g", "-Wall", "-Wextra", "-Wpedantic", "-Werror", "-Wl,--fatal-warnings", "-I", str(LIBRARY)]
 
 
