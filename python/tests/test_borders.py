@@ -115,7 +115,7 @@ def test_no_page_of_the_examples_is_a_capture():
 
 def test_no_vector_and_no_row_is_a_capture():
     streams = [bytes_of(vector.stream) for file in files() for vector in vectors_of(file)]
-    streams += [row.stream for row in rows_of(Path(TOP, "crates", "nap_tests", "data"))]
+    streams += [row.stream for row in rows_of(Path(TOP, "crates", "nap_rows", "data"))]
     assert len(streams) > 4000 and [data.hex() for data in streams if pages_in(data)] == []
 
 

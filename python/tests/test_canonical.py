@@ -67,7 +67,7 @@ def vectors():
         for vector in vectors_of(file):
             if vector.accepted:
                 yield bytes_of(vector.ending), lines_of(vector.list)
-    for row in rows_of(Path(TOP, "crates", "nap_tests", "data")):
+    for row in rows_of(Path(TOP, "crates", "nap_rows", "data")):
         if row.canonical is not None and row.lines is not None and row.canonical[:1]:
             yield row.canonical, row.lines
     for row in rows_of_lines():
@@ -95,7 +95,7 @@ def test_vectors_and_rows_by_their_documented_lines(naplps, words):
 
 def test_every_page_of_vectors_and_rows(naplps, words):
     streams = [vector.data for file in files() for vector in vectors_of(file)]
-    streams += [row.stream for row in rows_of(Path(TOP, "crates", "nap_tests", "data"))]
+    streams += [row.stream for row in rows_of(Path(TOP, "crates", "nap_rows", "data"))]
     found = entries = 0
     for chunk in in_chunks(streams):
         some = [each.canonical for each in asked(naplps, chunk) if each.canonical]

@@ -68,7 +68,7 @@ def streams():
     for vector in (each for file in files() for each in vectors_of(file)):
         if vector.accepted:
             yield vector.place, vector.data
-    for row in rows_of(Path(TOP, "crates", "nap_tests", "data")):
+    for row in rows_of(Path(TOP, "crates", "nap_rows", "data")):
         if row.canonical is not None:
             yield row.place, row.stream
 

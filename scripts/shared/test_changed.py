@@ -46,7 +46,7 @@ class Changed(unittest.TestCase):
             ("docs/LIBRARY.md", "library/test-library", "scripts/test/test-batch"),
             ("docs/MAKING.md", "scripts/test-pages making", "scripts/test-pages scans"),
             ("docs/SHELL.md", "scripts/test/test-collections", "scripts/test-pages module"),
-            ("crates/nap_tests/data/text.rows", "scripts/vectors/test-rows", "scripts/test-pages house"),
+            ("crates/nap_rows/data/text.rows", "scripts/vectors/test-rows", "scripts/test-pages house"),
             ("crates/nap_values/src/word.rt", "scripts/vectors/test-vectors", "scripts/test-pages player"),
             ("naplps", "scripts/test/test-launcher", "scripts/vectors/test-vectors"),
             ("man/naplps.1", "scripts/test/test-man", "scripts/test-pages scans"),

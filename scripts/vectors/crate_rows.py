@@ -1,4 +1,4 @@
-"""Reads the rows of crates/nap_tests/data, in the notation that README.md describes there."""
+"""Reads the rows of crates/nap_rows/data, in the notation that README.md describes there."""
 from __future__ import annotations
 
 import re

@@ -17,9 +17,9 @@ use Rattle.nap_cli.specs.Explaining.{Explains, Unread, outputs_of}
 
 -- The command line as clap parses it.
 
--- `--hex`
-abbrev pub hex_rule : Rule
-hex_rule = record (new_rule (codes "hex")) { long = Some (codes "hex"); action = Some SetTrue }
+-- an option without a value
+abbrev pub flag_rule : Text → Rule
+flag_rule name = record (new_rule name) { long = Some name; action = Some SetTrue }
 
 -- `--budget N`, a number from 0 to the greatest budget, with this text as its default
 abbrev pub budget_rule : Text → Rule
@@ -30,17 +30,13 @@ budget_rule usual = record (new_rule (codes "budget")) {
   defaults = usual ∷ [];
 }
 
--- `--stream`
-abbrev pub stream_rule : Rule
-stream_rule = record (new_rule (codes "stream")) { long = Some (codes "stream"); action = Some SetTrue }
-
 -- a command with the options that all have
 abbrev pub command_app : Text → Text → App
-command_app usual name = with_rule (with_rule (new_app name) hex_rule) (budget_rule usual)
+command_app usual name = with_rule (with_rule (new_app name) (flag_rule (codes "hex"))) (budget_rule usual)
 
 -- `canon`, which may print as it reads
 abbrev pub canon_app : Text → App
-canon_app usual = with_rule (command_app usual (codes "canon")) stream_rule
+canon_app usual = with_rule (command_app usual (codes "canon")) (flag_rule (codes "stream"))
 
 -- the program: it has a version, requires a command, and its own name comes first
 abbrev pub program_app : App
@@ -56,7 +52,7 @@ page_commands usual =
 
 -- `make`, which reads lines and may print as it reads
 abbrev pub make_app : App
-make_app = with_rule (new_app (codes "make")) stream_rule
+make_app = with_rule (new_app (codes "make")) (flag_rule (codes "stream"))
 
 -- the command line with all commands, `batch` among them, which has no option
 abbrev pub command_line_by : Text → App

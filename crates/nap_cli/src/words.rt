@@ -1,9 +1,9 @@
 //! Parsing of the command line (PROFILE.md, The command).
 ghost use Rattle.std.specs.Prelude.{◌≡◌, ◌≢◌, ◌⊎◌, Bool, false, IfErr, IfOk, MatchOption, Some, codes, decimal, map, string_bytes};
-ghost use Rattle.clap.specs.Words.{app_of, found_of, kind_of, one_of, rows_of};
+ghost use Rattle.clap.specs.Words.{app_of, found_of, kind_of, new_app, one_of, rows_of, rule_of};
 ghost use Rattle.clap.specs.declared.builder.command.Command.TheViews.{out-Command as fields_of};
 ghost use Rattle.nap_reader.specs.Budgets.{usual_budget};
-ghost use Rattle.nap_cli.specs.CommandLine.{Chooses, ChoosesJob, ChoosesStream, IsFault, SaysJob, action_name, canon_app, command_app, command_line_by, option_text, job_name, make_app};
+ghost use Rattle.nap_cli.specs.CommandLine.{Chooses, ChoosesJob, ChoosesStream, IsFault, SaysJob, action_name, budget_rule, canon_app, command_app, command_line_by, flag_rule, option_text, job_name, make_app};
 
 use clap::error::ErrorKind;
 use clap::{Arg, ArgAction, ArgMatches, Error, value_parser};
@@ -54,6 +54,9 @@ Example:
 prints
   POINT 4194304,4194304 pel=0,0 colour=own-start";
 
+const HEX_HELP: &str =
+    "The page is hexadecimal digits, with spaces, tabs and line ends as you like";
+
 const LIST_USAGE: &str = "naplps list [--hex] [--budget N] < PAGE";
 
 const LIST_HELP: &str =
@@ -95,6 +98,9 @@ Example:
 prints
   0e215f265240404040404040";
 
+const CANON_STREAM_HELP: &str =
+    "Prints while it reads, up to 64 KiB at a time, and keeps no entry,\nso memory doesn't grow with the page";
+
 const MAKE_USAGE: &str = "naplps make [--stream] < LINES";
 
 const MAKE_HELP: &str = "Makes the page of lines as 'list' prints them: its canonical stream";
@@ -108,6 +114,9 @@ Example:
   echo 'POINT 4194304,4194304 pel=0,0 colour=own-start' | naplps make | naplps list
 prints
   POINT 4194304,4194304 pel=0,0 colour=own-start";
+
+const MAKE_STREAM_HELP: &str =
+    "Prints while it reads, and keeps one line at most,\nso memory doesn't grow with the page";
 
 const BATCH_USAGE: &str = "naplps batch < REQUESTS";
 
@@ -158,7 +167,48 @@ impl BudgetTexts {
     }
 }
 
-/// Returns a command of the program with the options that all have.
+/// Returns a command without options, with its texts of help.
+fn described<'a>(
+    alloc: Global,
+    name: &'a str,
+    usage: &'a str,
+    about: &'a str,
+    example: &'a str,
+) -> clap::Command<'a>
+    ensures app { app_of result ≡ new_app name.entry.now }
+    ensures local { (fields_of result).has_globals ≡ false }
+{
+    clap::Command::new(alloc, name)
+        .override_usage(usage)
+        .about(about)
+        .after_help(example)
+}
+
+/// Returns an option without a value.
+fn flag<'a>(alloc: Global, name: &'a str, help: &'a str) -> Arg<'a>
+    ensures rule { rule_of result ≡ flag_rule name.entry.now }
+    ensures local { result.global ≡ false }
+{
+    Arg::new(alloc, name)
+        .long(name)
+        .action(ArgAction::SetTrue)
+        .help(help)
+}
+
+/// Returns `--budget`.
+fn budget_option<'a>(alloc: Global, texts: &'a BudgetTexts) -> Arg<'a>
+    ensures rule { rule_of result ≡ budget_rule (string_bytes texts.entry.now.usual) }
+    ensures local { result.global ≡ false }
+{
+    Arg::new(alloc, BUDGET)
+        .long(BUDGET)
+        .value_name("N")
+        .value_parser(value_parser!(u32).range(0..=i64::from(Budget::MOST)))
+        .default_value(texts.usual.as_str())
+        .help(texts.help.as_str())
+}
+
+/// Returns a command with the options that all on one page have.
 fn subcommand<'a>(
     alloc: Global,
     texts: &'a BudgetTexts,
@@ -170,22 +220,9 @@ fn subcommand<'a>(
     ensures app { IfOk result (λ c. app_of c ≡ command_app (string_bytes texts.entry.now.usual) name.entry.now) }
     ensures local { IfOk result (λ c. (fields_of c).has_globals ≡ false) }
 {
-    let hex = Arg::new(alloc, HEX)
-        .long(HEX)
-        .action(ArgAction::SetTrue)
-        .help("The page is hexadecimal digits, with spaces, tabs and line ends as you like");
-    let budget = Arg::new(alloc, BUDGET)
-        .long(BUDGET)
-        .value_name("N")
-        .value_parser(value_parser!(u32).range(0..=i64::from(Budget::MOST)))
-        .default_value(texts.usual.as_str())
-        .help(texts.help.as_str());
-    clap::Command::new(alloc, name)
-        .override_usage(usage)
-        .about(about)
-        .after_help(example)
-        .arg(hex)?
-        .arg(budget)
+    described(alloc, name, usage, about, example)
+        .arg(flag(alloc, HEX, HEX_HELP))?
+        .arg(budget_option(alloc, texts))
 }
 
 /// Returns `canon`, which has one more option.
@@ -193,55 +230,39 @@ fn canon_command<'a>(alloc: Global, texts: &'a BudgetTexts) -> Result<clap::Comm
     ensures app { IfOk result (λ c. app_of c ≡ canon_app (string_bytes texts.entry.now.usual)) }
     ensures local { IfOk result (λ c. (fields_of c).has_globals ≡ false) }
 {
-    let stream = Arg::new(alloc, STREAM)
-        .long(STREAM)
-        .action(ArgAction::SetTrue)
-        .help(
-            "Prints while it reads, up to 64 KiB at a time, and keeps no entry,\nso memory doesn't grow with the page",
-        );
-    subcommand(alloc, texts, CANON, CANON_USAGE, CANON_HELP, CANON_EXAMPLE)?.arg(stream)
+    subcommand(alloc, texts, CANON, CANON_USAGE, CANON_HELP, CANON_EXAMPLE)?.arg(flag(
+        alloc,
+        STREAM,
+        CANON_STREAM_HELP,
+    ))
 }
 
 /// Returns `make`, which has one option.
 fn make_command<'a>(alloc: Global) -> Result<clap::Command<'a>, AllocError>
     ensures { IfOk result (λ c. (app_of c ≡ make_app) × ((fields_of c).has_globals ≡ false)) }
 {
-    let stream = Arg::new(alloc, STREAM)
-        .long(STREAM)
-        .action(ArgAction::SetTrue)
-        .help(
-            "Prints while it reads, and keeps one line at most,\nso memory doesn't grow with the page",
-        );
-    clap::Command::new(alloc, MAKE)
-        .override_usage(MAKE_USAGE)
-        .about(MAKE_HELP)
-        .after_help(MAKE_EXAMPLE)
-        .arg(stream)
+    described(alloc, MAKE, MAKE_USAGE, MAKE_HELP, MAKE_EXAMPLE).arg(flag(
+        alloc,
+        STREAM,
+        MAKE_STREAM_HELP,
+    ))
 }
 
 /// Returns the command line of the program.
 fn program<'a>(alloc: Global, texts: &'a BudgetTexts) -> Result<clap::Command<'a>, AllocError>
     ensures { IfOk result (λ c. app_of c ≡ command_line_by (string_bytes texts.entry.now.usual)) }
 {
-    clap::Command::new(alloc, PROGRAM)
+    described(alloc, PROGRAM, USAGE, ABOUT, STATUSES)
         .bin_name(PROGRAM)?
         .version(VERSION)
-        .override_usage(USAGE)
-        .about(ABOUT)
-        .after_help(STATUSES)
         .no_binary_name(true)
         .subcommand_required(true)
         .subcommand(subcommand(alloc, texts, LIST, LIST_USAGE, LIST_HELP, LIST_EXAMPLE)?)?
         .subcommand(subcommand(alloc, texts, CHECK, CHECK_USAGE, CHECK_HELP, CHECK_EXAMPLE)?)?
         .subcommand(canon_command(alloc, texts)?)?
         .subcommand(make_command(alloc)?)?
-        .subcommand(
-            // `batch` has no option.
-            clap::Command::new(alloc, BATCH)
-                .override_usage(BATCH_USAGE)
-                .about(BATCH_HELP)
-                .after_help(BATCH_EXAMPLE),
-        )
+        // `batch` has no option.
+        .subcommand(described(alloc, BATCH, BATCH_USAGE, BATCH_HELP, BATCH_EXAMPLE))
 }
 
 /// Returns clap's error for words without a command.

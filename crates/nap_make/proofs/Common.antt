@@ -97,7 +97,7 @@ pub use Rattle.std.proofs.lemmas.Int.{ints, to_z-of_z}
 pub use Rattle.std.proofs.lemmas.List.Elements.{All-append, All-cons, All-head, All-map, All-nil, All-push, All-tail, All-take, All-weaker}
 pub use Rattle.std.proofs.lemmas.List.{append_cancel_left, flat_map_more, length-take-le, nil_from_length, take_all, take_more}
 pub use Rattle.std.proofs.lemmas.Result.{err_from_is_err_and}
-pub use Rattle.std.proofs.lemmas.Slice.Eq.{strip_prefix_is, text_from_reads}
+pub use Rattle.std.proofs.lemmas.Slice.Eq.{strip_prefix_is}
 pub use Rattle.std.proofs.lemmas.Str.Parse.{digit_from_value, numerals_by_value, tells_digits}
 pub use Rattle.std.proofs.lemmas.Str.{digit_value-digit_char, digit_value_digit}
 pub use Rattle.std.specs.Char.{digit_char, digit_value}

@@ -4,23 +4,11 @@ ghost use Rattle.nap_make.specs.Types.{ColourInRange, HasSixteenBitParts, IsInRa
 ghost use Rattle.nap_make.specs.Fields.{MaskInRange, modes_text, size_name, IsNumbered, IsPlainStep};
 ghost use Rattle.nap_make.specs.Reading.{IsParsed, AnyValue};
 
-use crate::cutting::{rest_after, split_at_byte};
+use crate::cutting::{equals, named, rest_after, split_at_byte};
 use crate::number::{addr, number_below, signed, two_words, word};
 use nap_codes::{CharSet, CursorKind, Mask, Size, TextStep};
 use nap_list::{CharSize, Colour, Origin, Pen, Preset, TextLook, Texture};
 use nap_values::{Grb, Move, Point};
-
-/// The value with the name that the bytes are, if it is one of these.
-macro_rules! named {
-    ($bytes:ident, $kind:ident: $($name:literal => $value:ident),*) => {
-        match $bytes {
-            $($name => Some($kind::$value),)*
-            _ => None,
-        }
-    };
-}
-
-pub(crate) use named;
 
 /// Parses a point.
 pub(crate) fn point(bytes: &[u8]) -> Option<Point>
@@ -47,8 +35,8 @@ pub(crate) fn pen(bytes: &[u8]) -> Option<Pen>
     ensures { IsParsed PenInRange pen_text bytes.now result }
 {
     match bytes {
-        b"start" => Some(Pen::Start),
-        b"after" => Some(Pen::After),
+        _ if equals(bytes, b"start") => Some(Pen::Start),
+        _ if equals(bytes, b"after") => Some(Pen::After),
         _ => Some(Pen::At(point(bytes)?)),
     }
 }
@@ -116,10 +104,10 @@ pub(crate) fn colour(bytes: &[u8]) -> Option<Colour>
     ensures { IsParsed ColourInRange colour_text bytes.now result }
 {
     match bytes {
-        b"own-start" => Some(Colour::Own(Origin::AtStart)),
-        b"own-reset" => Some(Colour::Own(Origin::AfterReset)),
-        b"reset-2" => Some(Colour::ByReset(Preset::Two)),
-        b"reset-3" => Some(Colour::ByReset(Preset::Three)),
+        _ if equals(bytes, b"own-start") => Some(Colour::Own(Origin::AtStart)),
+        _ if equals(bytes, b"own-reset") => Some(Colour::Own(Origin::AfterReset)),
+        _ if equals(bytes, b"reset-2") => Some(Colour::ByReset(Preset::Two)),
+        _ if equals(bytes, b"reset-3") => Some(Colour::ByReset(Preset::Three)),
         _ => colour_by_numbers(bytes),
     }
 }
@@ -205,10 +193,10 @@ pub(crate) fn look(bytes: &[u8]) -> Option<TextLook>
 fn mask_size(bytes: &[u8]) -> Option<Option<Move>>
     ensures { IsParsed MaskInRange mask_size_text bytes.now result }
 {
-    match bytes {
-        b"none" => Some(None),
-        _ => Some(Some(displacement(bytes)?)),
+    if equals(bytes, b"none") {
+        return Some(None);
     }
+    Some(Some(displacement(bytes)?))
 }
 
 /// Parses a texture.

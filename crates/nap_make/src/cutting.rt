@@ -1,4 +1,4 @@
-//! Splitting of bytes.
+//! Splitting of bytes, and names that they may be.
 ghost use Rattle.std.specs.Prelude.{◌≡◌, ◌≢◌, ◌++◌, ◌↔◌, ℕ, List, IsTrue, MatchOption};
 ghost use Rattle.nap_make.specs.Cutting.{SplitsAtByte};
 
@@ -37,3 +37,15 @@ pub(crate) fn equals(bytes: &[u8], text: &[u8]) -> bool
 {
     bytes == text
 }
+
+/// The value with the name that the bytes are, if it is one of these. (Patterns of bytes take ten times as long to prove.)
+macro_rules! named {
+    ($bytes:ident, $kind:ident: $($name:literal => $value:ident),*) => {
+        match $bytes {
+            $(_ if equals($bytes, $name) => Some($kind::$value),)*
+            _ => None,
+        }
+    };
+}
+
+pub(crate) use named;

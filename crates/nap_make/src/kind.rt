@@ -2,8 +2,7 @@
 ghost use Rattle.std.specs.Prelude.{◌≡◌, ◌≢◌, ◌++◌, ◌∷◌, ◌≤◌, [], MatchOption, length};
 ghost use Rattle.nap_make.specs.Kinds.{IsKindOf, IsPlainKind};
 
-use crate::attribute::named;
-use crate::cutting::{equals, rest_after};
+use crate::cutting::{equals, named, rest_after};
 use crate::field::Sort::{
     self, Addr, Code, Colour, Cursor, Look, Mask, Parts, Pel, Pen, Point, Set, Step, Texture,
     Times, Word,
@@ -61,15 +60,9 @@ impl Kind {
     fn with_long_name(name: &[u8]) -> Option<Kind>
         ensures { MatchOption result ((k : Kind) → HasLongName k → name.now ≢ line_name k) (λ k. (name.now ≡ line_name k) × IsPlainKind k) }
     {
-        match name {
-            _ if equals(name, b"ARC-OUTLINED") => Some(Kind::ArcOutlined),
-            _ if equals(name, b"RECT-OUTLINED") => Some(Kind::RectOutlined),
-            _ if equals(name, b"RECT-FILLED") => Some(Kind::RectFilled),
-            _ if equals(name, b"POLY-OUTLINED") => Some(Kind::PolyOutlined),
-            _ if equals(name, b"POLY-FILLED") => Some(Kind::PolyFilled),
-            _ if equals(name, b"BLINK-START") => Some(Kind::BlinkStart),
-            _ => None,
-        }
+        named!(name, Kind:
+            b"ARC-OUTLINED" => ArcOutlined, b"RECT-OUTLINED" => RectOutlined, b"RECT-FILLED" => RectFilled,
+            b"POLY-OUTLINED" => PolyOutlined, b"POLY-FILLED" => PolyFilled, b"BLINK-START" => BlinkStart)
     }
 
     /// Returns the kind with this name. `Position` and `Whole` have the names of `Move` and `Field`.

@@ -4,8 +4,8 @@ ghost use Rattle.nap_make.specs.Entries.{IsNameAlone, IsColumnAtName, IsWrittenA
 ghost use Rattle.nap_make.specs.Kinds.{HasPoints, IsChosen, line_from, least_points};
 ghost use Rattle.nap_make.specs.Rows.{EndsPoints, TellsRow};
 
-use crate::attribute::{named, point};
-use crate::cutting::split_at_byte;
+use crate::attribute::point;
+use crate::cutting::{equals, named, split_at_byte};
 use crate::entry::{entry_of, shape_of};
 use crate::fault::LineFault;
 use crate::field::{FIELDS, Sort, Value};

@@ -1,5 +1,4 @@
 //! Values, calls, lists, inputs and outputs by hand, with the answers that the profile gives.
-mod batch;
 mod canon_sinks;
 mod canonical;
 mod characters;
@@ -10,14 +9,16 @@ mod conversion;
 mod devices;
 mod drawing;
 mod drawing_sinks;
+mod entries;
+mod givers;
 mod growth;
 mod known;
 mod lines;
 mod lists;
-mod read_back;
 mod reader_pairs;
 mod reading;
 mod rows;
+mod samples;
 mod sinks;
 mod states;
 mod values;

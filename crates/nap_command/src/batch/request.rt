@@ -55,11 +55,11 @@ impl Question {
         ensures { MatchOption result ((q : Question) → name.now ≢ question_name q) (λ q. name.now ≡ question_name q) }
     {
         match name {
-            b"check" => Some(Question::Check),
-            b"list" => Some(Question::List),
-            b"canon" => Some(Question::Canon),
-            b"places" => Some(Question::Places),
-            b"make" => Some(Question::Make),
+            _ if name == b"check".as_slice() => Some(Question::Check),
+            _ if name == b"list".as_slice() => Some(Question::List),
+            _ if name == b"canon".as_slice() => Some(Question::Canon),
+            _ if name == b"places".as_slice() => Some(Question::Places),
+            _ if name == b"make".as_slice() => Some(Question::Make),
             _ => None,
         }
     }

@@ -1,7 +1,7 @@
 //! A sink of canonical text whose writer fails.
+use super::entries::{DOT, entry_of};
+use crate::devices::{End, Taker};
 use nap_canon::CanonSink;
-use nap_fixtures::devices::{End, Taker};
-use nap_fixtures::entries::{DOT, entry_of};
 use nap_list::{Entry, SinkFault, State, Target};
 use std::alloc::Global;
 use std::test::Fail;

@@ -1,8 +1,8 @@
 //! Lists that aren't legal, which have no canonical text in either form.
+use super::entries::{DOT, Sample, Shade, Spot, entries_of};
 use Sample::{Bell, BlinkEnd, Blue, DefEnd, Glyph, Red, Reset};
 use Spot::Start;
 use nap_canon::{CanonFault, canon, canon_form1};
-use nap_fixtures::entries::{DOT, Sample, Shade, Spot, entries_of};
 use std::test::Fail;
 
 /// The component of the colours that is set.

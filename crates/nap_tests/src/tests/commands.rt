@@ -1,6 +1,7 @@
 //! Commands on inputs and outputs that fail, give and take little at a call, and count their calls.
+use super::givers::{Giver, Nuls};
+use crate::devices::{End, Taker};
 use nap_command::{Action, Command, Failure, execute, write_whole};
-use nap_fixtures::devices::{End, Giver, Nuls, Taker};
 use nap_list::{Source, Target};
 use nap_reader::Budget;
 use std::alloc::Global;

@@ -1,6 +1,7 @@
 //! Conversions of inputs that give little at a read or fail, into outputs that take little at a write or fail.
+use super::givers::{Giver, Nuls};
+use crate::devices::{End, Taker};
 use nap_canon::{ConvertFault, convert, normalise};
-use nap_fixtures::devices::{End, Giver, Nuls, Taker};
 use nap_list::{Inlet, Source, Target};
 use nap_reader::{Budget, Fault, Refusal};
 use std::alloc::{AllocError, Global};

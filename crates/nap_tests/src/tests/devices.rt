@@ -1,5 +1,6 @@
 //! Devices that give and take a few bytes, and fail.
-use nap_fixtures::devices::{End, Giver, Taker};
+use super::givers::Giver;
+use crate::devices::{End, Taker};
 use nap_list::{DeviceFault, Inlet, Outlet, Source, Target};
 use std::alloc::Global;
 use std::io::{ErrorKind, Read, Write};

@@ -4,10 +4,10 @@ ghost use Rattle.nap_list.specs.Entry.{IsCode};
 ghost use Rattle.nap_draw.specs.Codes.{IsMade};
 ghost use Rattle.nap_draw.specs.Rule.{IsDrawn};
 
+use super::entries::{Sample, Spot, entries_of};
+use super::samples::{word, words};
 use nap_codes::{CharSet, Code, Opcode, TextStep};
 use nap_draw::{DrawFault, Effects, RUN_LIMIT, Work, apply, control, text};
-use nap_fixtures::entries::{Sample, Spot, entries_of};
-use nap_fixtures::samples::{word, words};
 use nap_list::{Entry, ListSink, Pen};
 use std::alloc::{AllocError, Global};
 use std::test::Fail;

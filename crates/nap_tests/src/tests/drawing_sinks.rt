@@ -1,12 +1,12 @@
 //! Opcodes and controls whose sink fails.
 use super::drawing::{has_rule, is_made};
+use super::entries::{MIDDLE, Sample, Shade, Spot, entries_of};
+use super::samples::{word, words};
+use crate::faltering::Faltering;
 use Sample::{Blink, DefEnd, Dot, Glyph, Letter, Line, Rect, Wait};
 use Shade::AtStart;
 use nap_codes::{CharSet, Code, Mask, Opcode};
 use nap_draw::{DrawFault, RUN_LIMIT, Work, apply};
-use nap_fixtures::entries::{MIDDLE, Sample, Shade, Spot, entries_of};
-use nap_fixtures::faltering::Faltering;
-use nap_fixtures::samples::{word, words};
 use nap_list::{Entry, SinkFault};
 use std::alloc::{AllocError, Global};
 use std::test::Fail;

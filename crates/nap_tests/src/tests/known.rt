@@ -1,6 +1,6 @@
 //! The known colours of the map.
+use super::entries::{Sample, Spot, entry_of};
 use Sample::{Red, Reset};
-use nap_fixtures::entries::{Sample, Spot, entry_of};
 use nap_list::{KNOWN, Known, State};
 use std::alloc::{AllocError, Global};
 use std::test::Fail;

@@ -1,6 +1,6 @@
 //! The line of an entry that no stream gives.
+use super::samples::hand;
 use nap_codes::Size;
-use nap_fixtures::samples::hand;
 use nap_lines::line_of;
 use nap_list::{Entry, Pen};
 use std::test::Fail;

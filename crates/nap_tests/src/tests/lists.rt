@@ -1,4 +1,5 @@
 //! Legal lists, and others with the index at which they aren't legal.
+use super::entries::{DOT, LINE, MIDDLE, QUARTER, Sample, Shade, Spot, entries_of};
 use Sample::{
     Arc, Bell, Blink, BlinkEnd, BlinkMark, Clear, Cursor, DefEnd, Dot, Field, Glyph, Letter, Line,
     MaskStart, MaskedLine, Mosaic, Poly, Rect, Red, Reset, Step, ToEol, Wait,
@@ -6,7 +7,6 @@ use Sample::{
 use Shade::{AfterReset, AtStart, Blue, ByThree, ByTwo};
 use Spot::{After, At, Start};
 use nap_codes::{CursorKind, Mask, TextStep};
-use nap_fixtures::entries::{DOT, LINE, MIDDLE, QUARTER, Sample, Shade, Spot, entries_of};
 use nap_list::legal;
 use std::test::Fail;
 

@@ -1,7 +1,7 @@
 //! Readers between two pieces of a stream, their budgets, and the names of faults.
+use super::entries::{DOT, entries_of};
 use nap_codes::{CodeFault, Left};
 use nap_draw::DrawFault;
-use nap_fixtures::entries::{DOT, entries_of};
 use nap_list::{Entry, ListSink, Sink};
 use nap_reader::{Budget, Fault, RUN_LIMIT, Reader, Refusal};
 use std::alloc::Global;

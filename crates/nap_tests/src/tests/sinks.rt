@@ -1,7 +1,7 @@
 //! Sinks that count and that keep, and points kept in memory.
+use super::entries::{MIDDLE, QUARTER, Sample, entries_of, entry_of};
+use super::samples::{at, corners, word};
 use Sample::{Bell, Poly, Wait};
-use nap_fixtures::entries::{MIDDLE, QUARTER, Sample, entries_of, entry_of};
-use nap_fixtures::samples::{at, corners, word};
 use nap_list::{CountSink, Entry, ListSink, Points, SHAPE_POINTS, Sink};
 use std::test::Fail;
 

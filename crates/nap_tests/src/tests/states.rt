@@ -1,4 +1,6 @@
 //! The states that entries leave.
+use super::entries::{DOT, LINE, MIDDLE, QUARTER, Sample, Shade, Spot, entries_of, entry_of};
+use super::samples::{address, at, blue, look, reset, size, word};
 use Sample::{
     Arc, Bell, Blink, BlinkEnd, BlinkMark, Clear, Cursor, DefEnd, Dot, Field, Glyph, Letter,
     MaskStart, Poly, Rect, Red, Reset, Step, Wait, WideDot,
@@ -6,10 +8,6 @@ use Sample::{
 use Shade::{AtStart, ByTwo};
 use Spot::{After, At, Start};
 use nap_codes::{CursorKind, Mask, Size, TextStep};
-use nap_fixtures::entries::{
-    DOT, LINE, MIDDLE, QUARTER, Sample, Shade, Spot, entries_of, entry_of,
-};
-use nap_fixtures::samples::{address, at, blue, look, reset, size, word};
 use nap_list::{Base, CharSize, Colour, Drawing, Known, Origin, Pen, State, TextLook, Texture};
 use nap_values::{Grb, Move, Word};
 use std::alloc::{AllocError, Global};

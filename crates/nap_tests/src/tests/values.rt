@@ -1,6 +1,6 @@
 //! The displacements between points, and the ends of the ranges of values.
-use nap_fixtures::entries::MIDDLE;
-use nap_fixtures::samples::{at, point, size, word};
+use super::entries::MIDDLE;
+use super::samples::{at, point, size, word};
 use nap_values::{
     Addr, Domain, Grb, Move, Point, Word, colour, colour_bytes, multi, multi_bytes, single,
     single_bytes,

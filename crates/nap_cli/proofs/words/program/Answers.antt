@@ -1,5 +1,4 @@
-use Rattle.nap_cli.proofs.Common.{App, IfOk-weaker, ap, app_of, app_of_fields, ap₂, codes, command_app, false, make_app, new_app, page_commands, program_app, string_bytes, true, with_subcommand, ◌∙◌, ◌≡◌}
-use Rattle.clap.specs.declared.builder.command.Command.TheViews.{out-Command as fields_of}
+use Rattle.nap_cli.proofs.Common.{App, IfOk-weaker, ap, app_of, app_of_fields, ap₂, codes, command_app, make_app, new_app, page_commands, program_app, string_bytes, true, with_subcommand, ◌∙◌, ◌≡◌}
 use Rattle.nap_cli.proofs.words.program.Goals as goal
 
 -- there is a version, a command is required, and its name comes first
@@ -12,11 +11,10 @@ with_command a = record a { top = record a.top { no_binary_name = true; subcomma
 pub returns : goal.returns
 returns c =
     let usual = string_bytes c.args.texts.now.usual in
-    let named : app_of c.in_ok-bin_name.field-0 ≡ new_app (codes "naplps") = ap app_of_fields c.in_ok-bin_name.ensures.0 ∙ c.new.ensures.app in
+    let named : app_of c.in_ok-bin_name.field-0 ≡ new_app (codes "naplps") = ap app_of_fields c.in_ok-bin_name.ensures.0 ∙ c.described.ensures.app in
     let versioned : app_of c.version.result ≡ with_version (new_app (codes "naplps")) = ap app_of_fields c.version.ensures ∙ ap with_version named in
-    let reported : app_of c.after_help.result ≡ with_version (new_app (codes "naplps")) = ap app_of_fields c.after_help.ensures ∙ (ap app_of_fields c.about.ensures ∙ (ap app_of_fields c.override_usage.ensures ∙ versioned)) in
     let start_is : app_of c.subcommand_required.result ≡ program_app =
-    ap app_of_fields c.subcommand_required.ensures ∙ (ap (λ f. app_of_fields (record f { subcommand_required = true })) c.no_binary_name.ensures ∙ ap with_command reported) in
+    ap app_of_fields c.subcommand_required.ensures ∙ (ap (λ f. app_of_fields (record f { subcommand_required = true })) c.no_binary_name.ensures ∙ ap with_command versioned) in
     let one : app_of c.in_ok-subcommand-2.field-0 ≡ with_subcommand program_app (command_app usual (codes "list")).top =
     c.in_ok-subcommand-2.ensures.shape c.in_ok-subcommand.ensures.local ∙ ap₂ with_subcommand start_is (ap (λ (a : App). a.top) c.in_ok-subcommand.ensures.app) in
     let two : app_of c.in_ok-subcommand-4.field-0 ≡ with_subcommand (with_subcommand program_app (command_app usual (codes "list")).top) (command_app usual (codes "check")).top =
@@ -25,6 +23,4 @@ returns c =
     c.in_ok-subcommand-5.ensures.shape c.in_ok-canon_command.ensures.local ∙ ap₂ with_subcommand two (ap (λ (a : App). a.top) c.in_ok-canon_command.ensures.app) in
     let four : app_of c.in_ok-subcommand-6.field-0 ≡ with_subcommand (page_commands usual) make_app.top =
     c.in_ok-subcommand-6.ensures.shape c.in_ok-make_command.ensures.1 ∙ ap₂ with_subcommand three (ap (λ (a : App). a.top) c.in_ok-make_command.ensures.0) in
-    let batch_is : app_of c.after_help-2.result ≡ new_app (codes "batch") = ap app_of_fields c.after_help-2.ensures ∙ (ap app_of_fields c.about-2.ensures ∙ (ap app_of_fields c.override_usage-2.ensures ∙ c.new-2.ensures.app)) in
-    let local : (fields_of c.after_help-2.result).has_globals ≡ false = ap (λ f. f.has_globals) c.after_help-2.ensures ∙ (ap (λ f. f.has_globals) c.about-2.ensures ∙ (ap (λ f. f.has_globals) c.override_usage-2.ensures ∙ c.new-2.ensures.local)) in
-    IfOk-weaker c.subcommand-7.result _ _ (λ r h. h.shape local ∙ ap₂ with_subcommand four (ap (λ (a : App). a.top) batch_is)) c.subcommand-7.ensures
+    IfOk-weaker c.subcommand-7.result _ _ (λ r h. h.shape c.described-2.ensures.local ∙ ap₂ with_subcommand four (ap (λ (a : App). a.top) c.described-2.ensures.app)) c.subcommand-7.ensures

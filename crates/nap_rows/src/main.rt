@@ -1,6 +1,4 @@
-//! Checks tables of streams against what the libraries answer. Its arguments name the tables, a file each. What needs
-//! more than a stream is in `tests`: values, calls, readers between two pieces, lists that aren't legal, devices and
-//! sinks that fail, and refused memory.
+//! Checks tables of streams against what the libraries answer. Its arguments name the tables, a file each.
 //!
 //! A row is a line `STREAM | LIST | CANONICAL` of a stream that is accepted, or `STREAM | LIST | refused 10 Outside at 3` of
 //! one that is refused, with the entries before that. A line that begins with `#` is a comment, an empty one is nothing.
@@ -22,8 +20,6 @@ mod report;
 mod row;
 mod stops;
 mod table;
-#[cfg(test)]
-mod tests;
 mod trial;
 
 use std::process::ExitCode;

@@ -4,8 +4,8 @@ use Rattle.nap_list.specs.PuttingLaws.{one_put, wanting_put}
 use Rattle.nap_list.specs.Putting.{PutSome, SinkModel, sink_model}
 use Rattle.nap_list.specs.Shapes.{entry_of_shape}
 use Rattle.nap_list.specs.State.{start, walk}
-use Rattle.nap_fixtures.specs.declared.faltering.Faltering.{Faltering}
-use Rattle.nap_fixtures.proofs.faltering.FalteringSink.put_shape.Goals as goal
+use Rattle.nap_tests.specs.declared.faltering.Faltering.{Faltering}
+use Rattle.nap_tests.proofs.faltering.FalteringSink.put_shape.Goals as goal
 
 -- the model of the sink
 abbrev faltering : SinkModel Faltering

@@ -3,9 +3,9 @@ use crate::answer::{Cut, read_into, same_end};
 use crate::report::Report;
 use crate::row::{Row, Stop, stops_of};
 use nap_canon::CanonSink;
-use nap_fixtures::devices::{End, Taker};
 use nap_list::Target;
 use nap_reader::{Fault, Reader, Refusal};
+use nap_tests::devices::{End, Taker};
 use std::alloc::AllocError;
 
 /// Longer texts are written only to outlets with space for all of it.

@@ -1,5 +1,5 @@
 //! Entries by name, so that a table of lists is one constant.
-use crate::samples::{
+use super::samples::{
     arc, at, blink, blink_mark, blue, character, corners, dot, field, inked, line, map, poly, rect,
     reset, size, text_move, to_eol, word,
 };

@@ -11,11 +11,7 @@ pub fn word(number: u8) -> Word {
 
 /// Returns the words that these bytes carry.
 pub fn words(alloc: Global, bytes: &[u8]) -> Result<Vec<Word>, AllocError> {
-    let mut words = Vec::new(alloc);
-    for byte in bytes {
-        words.push(word(byte & 0x3F))?;
-    }
-    Ok(words)
+    bytes.iter().map(|byte| word(byte & 0x3F)).collect(alloc)
 }
 
 /// Returns the address with this number.

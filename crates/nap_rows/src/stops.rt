@@ -2,9 +2,9 @@
 use crate::answer::{Answer, Cut, read_into, same_end};
 use crate::report::Report;
 use crate::row::{Row, Stop, stops_of};
-use nap_fixtures::faltering::Faltering;
 use nap_list::{Entry, SinkFault};
 use nap_reader::{Fault, Reader, Refusal};
+use nap_tests::faltering::Faltering;
 use std::alloc::AllocError;
 
 /// Returns the refusal for a fault of a sink at this place.
