@@ -1,4 +1,4 @@
-"""Pages with every code that a page may have, in the shares that screens of a service have.
+"""Pages with every code that a page may have: a few between letters and drawings, or, in dense pages, many.
 
 Points and lines are runs as long as one may be, and polygons have up to 160 corners. A text has screens of lines with
 accents, sizes, reverse video, underlines, repeated characters and moves of the position. A mixed page has screens that
@@ -27,7 +27,7 @@ CURSORS = (b"\x1b\x5b", b"\x1b\x5c", b"\x1b\x5d")
 ACCENTS, MOSAICS = b"ABCDHKO", range(0x21, 0x40)
 # The DRCS set into G2, and the supplementary set again.
 GLYPHS_IN_G2, ACCENTS_IN_G2 = b"\x1b\x2a\x7b", b"\x1b\x2a\x7c"
-GLYPHS, MASKS = range(0x21, 0x31), b"ABCD"
+GLYPH_CODES, MASKS = range(0x21, 0x31), b"ABCD"
 MIDDLE: Place = (128, 128)
 COLUMNS, LINES = 38, 20
 # The displacements of three words in a run of at most 16,384 bytes.
@@ -47,6 +47,10 @@ class Macro(NamedTuple):
 class EveryCode(Operands):
     """Pieces of pages, the same ones for the same seed."""
 
+    # Of a thousand words, those with an accent, a repeated character, or another look; of lines, those with a move; of
+    # captions, those with another look; of drawings, those of a glyph or mask; of shapes, those of a rare opcode.
+    ACCENTED, REPEATED, LOOKS, MOVES, CAPTIONS, GLYPHS, OTHERS = 6, 4, 26, 25, 350, 30, 150
+
     def __init__(self, seed: str) -> None:
         super().__init__(seed)
         self.known: List[Macro] = []
@@ -55,7 +59,11 @@ class EveryCode(Operands):
 
     def chance(self, percent: int) -> bool:
         """Whether something comes that comes so many times in a hundred."""
-        return self.random.randrange(100) < percent
+        return self.rarely(10 * percent)
+
+    def rarely(self, share: int) -> bool:
+        """Whether something comes that comes so many times in a thousand."""
+        return self.random.randrange(1000) < share
 
     def near(self, low: int, high: int) -> Place:
         """A place whose coordinates are between two numbers."""
@@ -63,7 +71,7 @@ class EveryCode(Operands):
 
     def placed(self, at: Place) -> bytes:
         """The pen at a place."""
-        return SO + POINT_SET_ABS + multi(*at)
+        return POINT_SET_ABS + multi(*at)
 
     def run_of(self, opcode: bytes, count: int, most: int = 9) -> bytes:
         """A run of an opcode from where the pen is set."""
@@ -73,16 +81,16 @@ class EveryCode(Operands):
     def run_from(self, opcode: bytes, count: int, most: int = 9) -> bytes:
         """A run of an opcode that sets the pen itself."""
         at = self.place()
-        return SO + opcode + multi(*at) + self.steps(at, count, most)
+        return opcode + multi(*at) + self.steps(at, count, most)
 
     def places(self, opcode: bytes, count: int) -> bytes:
         """A run of places."""
-        return SO + opcode + b"".join(multi(*self.place()) for _ in range(count))
+        return opcode + b"".join(multi(*self.place()) for _ in range(count))
 
     def pairs(self, opcode: bytes, count: int) -> bytes:
         """A run of places, each with a displacement from it."""
         found = (self.place() for _ in range(count))
-        return SO + opcode + b"".join(multi(*at) + self.steps(at, 1, 40) for at in found)
+        return opcode + b"".join(multi(*at) + self.steps(at, 1, 40) for at in found)
 
     def colour(self) -> bytes:
         """A colour that is set."""
@@ -100,17 +108,17 @@ class EveryCode(Operands):
 
     def points(self) -> bytes:
         """A run of points, as long as a run may be."""
-        return self.run_of(POINT_REL, LONGEST)
+        return SO + self.run_of(POINT_REL, LONGEST)
 
     def lines(self) -> bytes:
         """A run of lines, as long as a run may be."""
-        return self.run_of(LINE_REL, LONGEST)
+        return SO + self.run_of(LINE_REL, LONGEST)
 
     def poly(self) -> bytes:
         """A polygon, at times with its colour."""
-        colour = SO + self.colour() if self.chance(40) else b""
+        colour = self.colour() if self.chance(40) else b""
         opcode = self.random.choice((SET_POLY_FILLED, SET_POLY_OUTLINED))
-        return colour + self.run_from(opcode, self.random.randint(10, 160))
+        return SO + colour + self.run_from(opcode, self.random.randint(10, 160))
 
     def letters(self, count: int) -> bytes:
         """Letters of a word."""
@@ -121,9 +129,9 @@ class EveryCode(Operands):
         made = bytearray()
         for _ in range(count):
             made += self.letters(self.random.randint(2, 10))
-            if self.chance(6):
+            if self.rarely(self.ACCENTED):
                 made += SS2 + bytes([self.random.choice(ACCENTS)]) + b"e"
-            if self.chance(2):
+            if self.rarely(self.REPEATED):
                 made += b"-" + REPEAT + self.word(12)
             made += b" "
         return bytes(made)
@@ -148,8 +156,8 @@ class EveryCode(Operands):
         """A line of text."""
         made = self.words(1)
         while len(made) < COLUMNS:
-            made += self.look() if self.chance(8) else self.words(1)
-        return made + (self.moves() if self.chance(15) else b"") + RETURN + DOWN
+            made += self.look() if self.rarely(self.LOOKS) else self.words(1)
+        return made + (self.moves() if self.rarely(self.MOVES) else b"") + RETURN + DOWN
 
     def text(self) -> bytes:
         """A screen of text."""
@@ -158,37 +166,50 @@ class EveryCode(Operands):
 
     def glyph(self) -> bytes:
         """A character of the page's own, or a mask, and what it is used for."""
-        drawn = SO + SET_POLY_FILLED + multi(*self.near(100, 150)) + self.steps(MIDDLE, 6, 10)
+        drawn = SET_POLY_FILLED + multi(*self.near(100, 150)) + self.steps(MIDDLE, 6, 10)
         if self.chance(25):
             mask = bytes([self.random.choice(MASKS)])
-            return DEF_TEXTURE + mask + drawn + END + SO + TEXTURE + b"\x50" + multi(8, 8)
-        code = bytes([self.random.choice(GLYPHS)])
+            return DEF_TEXTURE + mask + drawn + END + TEXTURE + b"\x50" + multi(8, 8)
+        code = bytes([self.random.choice(GLYPH_CODES)])
         shown = GLYPHS_IN_G2 + SS2 + code + REPEAT + self.word(10) + ACCENTS_IN_G2
-        return DEF_DRCS + code + drawn + END + SI + shown
+        return DEF_DRCS + code + drawn + END + SI + shown + SO
 
-    def shape(self) -> bytes:
-        """A short run of any opcode that draws."""
+    def usual_shape(self) -> bytes:
+        """A run of an opcode that most drawings have."""
         kinds: Tuple[Callable[[], bytes], ...] = (
-            lambda: self.run_of(POINT_REL, self.random.randint(1, 10)),
-            lambda: self.places(POINT_ABS, self.random.randint(1, 10)),
-            lambda: self.run_of(POINT_SET_REL, 1) + POINT_ABS + multi(*self.place()),
+            lambda: self.pairs(SET_RECT_FILLED, 1),
+            lambda: self.run_from(SET_POLY_FILLED, self.random.randint(3, 22)),
+            lambda: self.run_from(SET_ARC_FILLED, 2, 25),
             lambda: self.run_of(LINE_REL, self.random.randint(1, 12)),
-            lambda: self.run_of(LINE_ABS, 0) + multi(*self.place()),
             lambda: self.places(SET_LINE_ABS, 2 * self.random.randint(1, 3)),
-            lambda: self.pairs(SET_LINE_REL, self.random.randint(1, 3)),
-            lambda: self.run_of(self.random.choice((ARC_OUTLINED, ARC_FILLED)), 2, 25),
-            lambda: self.run_from(self.random.choice((SET_ARC_OUTLINED, SET_ARC_FILLED)), 2, 25),
-            lambda: self.run_of(self.random.choice((RECT_OUTLINED, RECT_FILLED)), 1, 60),
-            lambda: self.pairs(self.random.choice((SET_RECT_OUTLINED, SET_RECT_FILLED)), 1),
-            lambda: self.run_of(self.random.choice((POLY_OUTLINED, POLY_FILLED)), self.random.randint(3, 22)),
-            lambda: self.run_from(self.random.choice((SET_POLY_OUTLINED, SET_POLY_FILLED)), self.random.randint(3, 22)),
+            lambda: self.places(POINT_ABS, self.random.randint(1, 10)),
         )
         return self.random.choice(kinds)()
 
+    def other_shape(self) -> bytes:
+        """A run of another opcode that draws."""
+        kinds: Tuple[Callable[[], bytes], ...] = (
+            lambda: self.run_of(POINT_REL, self.random.randint(1, 10)),
+            lambda: self.run_of(POINT_SET_REL, 1) + POINT_ABS + multi(*self.place()),
+            lambda: self.run_of(LINE_ABS, 0) + multi(*self.place()),
+            lambda: self.pairs(SET_LINE_REL, self.random.randint(1, 3)),
+            lambda: self.run_of(self.random.choice((ARC_OUTLINED, ARC_FILLED)), 2, 25),
+            lambda: self.run_from(SET_ARC_OUTLINED, 2, 25),
+            lambda: self.run_of(self.random.choice((RECT_OUTLINED, RECT_FILLED)), 1, 60),
+            lambda: self.pairs(SET_RECT_OUTLINED, 1),
+            lambda: self.run_of(self.random.choice((POLY_OUTLINED, POLY_FILLED)), self.random.randint(3, 22)),
+            lambda: self.run_from(SET_POLY_OUTLINED, self.random.randint(3, 22)),
+        )
+        return self.random.choice(kinds)()
+
+    def shape(self) -> bytes:
+        """A short run of any opcode that draws."""
+        return self.other_shape() if self.rarely(self.OTHERS) else self.usual_shape()
+
     def drawing(self) -> bytes:
         """A shape with its colour, and at times another texture."""
-        textured = SO + TEXTURE + self.word(4) if self.chance(20) else b""
-        return SO + self.select() + textured + self.shape()
+        textured = TEXTURE + self.word(4) if self.chance(20) else b""
+        return self.select() + textured + self.shape()
 
     def beginning(self) -> bytes:
         """What a screen begins with: RESET, the pel, colours of the map."""
@@ -199,17 +220,17 @@ class EveryCode(Operands):
 
     def captions(self) -> bytes:
         """Texts at places of the drawing, in a size of their own."""
-        made = SO + TEXT + b"\x40\x40" + multi(6, 10)
+        made = TEXT + b"\x40\x40" + multi(6, 10)
         for _ in range(self.random.randint(3, 8)):
             at = self.placed(self.near(10, 200))
             made += SO + self.select() + at + SI + self.words(self.random.randint(2, 6))
-            made += self.look() if self.chance(60) else self.moves()
+            made += self.look() if self.rarely(self.CAPTIONS) else self.moves()
         return made
 
     def mixed(self) -> bytes:
         """A screen of drawings and texts."""
         first = CLEAR + self.beginning() + (FIELD + multi(16, 16) + multi(200, 180) if self.chance(20) else b"")
-        drawn = (self.glyph() if self.chance(5) else self.drawing() for _ in range(10))
+        drawn = (self.glyph() if self.rarely(self.GLYPHS) else self.drawing() for _ in range(10))
         ending = SO + WAIT + self.word() + BLINK + b"\x44\x45\x45\x40" + (BLINK if self.chance(50) else b"")
         return first + b"".join(drawn) + self.captions() + ending
 
@@ -233,13 +254,13 @@ class EveryCode(Operands):
         body, charge = b"", 0
         for _ in range(2):
             other = 4 * self.random.randrange((len(self.known) + 3) // 4)
-            body += self.placed(self.near(100, 150)) + CALL + bytes([FIRST_NAME + other])
+            body += SO + self.placed(self.near(100, 150)) + CALL + bytes([FIRST_NAME + other])
             charge += self.known[other].charge
         return Macro(body, len(body) + charge, b"")
 
     def definitions(self) -> bytes:
         """Definitions of all macros, which can be called after them; the first is presented too."""
-        at_middle = self.placed(MIDDLE)
+        at_middle = SO + self.placed(MIDDLE)
         made = MACROS_IN_G3 + at_middle
         for number, macro in enumerate(self.known):
             made += (DEF_MACRO if number else DEFP_MACRO) + bytes([FIRST_NAME + number]) + macro.body
@@ -248,7 +269,13 @@ class EveryCode(Operands):
     def macros(self) -> bytes:
         """A call from a place, and then at least as many bytes as it charges."""
         number = self.random.randrange(NAMES)
-        made = self.placed(self.near(100, 150)) + CALL + bytes([FIRST_NAME + number]) + self.known[number].further
+        made = SO + self.placed(self.near(100, 150)) + CALL + bytes([FIRST_NAME + number]) + self.known[number].further
         while len(made) < self.known[number].charge:
-            made += self.drawing() if self.chance(50) else SI + self.words(2)
+            made += SO + self.drawing() if self.chance(50) else SI + self.words(2)
         return made
+
+
+class DenseCode(EveryCode):
+    """Pieces with many codes between few letters."""
+
+    ACCENTED, REPEATED, LOOKS, MOVES, CAPTIONS, GLYPHS, OTHERS = 60, 20, 80, 150, 600, 50, 600

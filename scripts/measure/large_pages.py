@@ -1,7 +1,7 @@
-"""Large pages for measurements, of two families: with few codes, and with every code."""
+"""Large pages for measurements, of three families: with few codes, with every code, and with many of each."""
 from typing import Callable, Dict, Union
 
-from measure.every_code import EveryCode
+from measure.every_code import DenseCode, EveryCode
 from measure.few_codes import FewCodes
 
 MIB = 1024 * 1024
@@ -9,7 +9,7 @@ MIB = 1024 * 1024
 BLOCK = MIB
 KINDS = ("points", "lines", "poly", "text", "mixed", "macros")
 Pieces = Union[FewCodes, EveryCode]
-FAMILIES: Dict[str, Callable[[str], Pieces]] = {"few": FewCodes, "every": EveryCode}
+FAMILIES: Dict[str, Callable[[str], Pieces]] = {"few": FewCodes, "every": EveryCode, "dense": DenseCode}
 
 
 def page(family: str, kind: str, size: int) -> bytes:
