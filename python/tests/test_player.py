@@ -245,7 +245,8 @@ def test_a_click_finds_one_mosaic_of_a_row_and_marks_it(shown):
     # (its row begins at the left, with cells of 51.2 units; what is around it, 563.2 to 614.4, isn't of its colour)
     first = max(at for at, line in enumerate(lines) if " pen=0," in line)
     assert lines[entry].startswith("CHAR mosaic ") and entry - first == 600 * 10 // 512
-    assert page.run("player.screen.context.getImageData(562, 405, 1, 1).data.join()") != bare
+    # (a busy machine draws the mark in a later frame)
+    page.until("player.screen.context.getImageData(562, 405, 1, 1).data.join() !== '%s'" % bare)
 
 
 def test_keys(shown):
