@@ -1,6 +1,7 @@
 """The module naplps answers what the program answers, over the library and over the program."""
 import array
 import os
+import pathlib
 import pickle
 import re
 import subprocess
@@ -23,6 +24,7 @@ from samples import MACRO, OUTSIDE, POINT, POINT_AND_BELL, POINT_LINE, SPELLED
 from strategies import pages
 
 sys.path.append(os.path.join(TOP, "scripts"))
+from vectors.crate_rows import rows_of  # noqa: E402
 from vectors.notation import bytes_of, lines_of, numbers_of  # noqa: E402
 from vectors.rows import files, vectors_of  # noqa: E402
 
@@ -254,6 +256,16 @@ def test_vectors_by_what_the_library_alone_has(kind):
             assert nap.canon_form1(vector.data, vector.budget) == wanted, vector.place
         else:
             assert refusal(nap.canon_form1, vector.data, vector.budget) == vector.ending, vector.place
+
+
+def test_rows_by_what_the_library_alone_has(kind):
+    if kind == "program":
+        return
+    rows = rows_of(pathlib.Path(TOP, "crates", "nap_rows", "data"))
+    for row in rows:
+        assert row.plain in (None, nap.is_plain(row.stream)), row.place
+        assert row.form1 is None or nap.canon_form1(row.stream, row.budget) == row.form1, row.place
+    assert sum(row.form1 is not None for row in rows) > 40
 
 
 @st.composite

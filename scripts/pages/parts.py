@@ -57,7 +57,7 @@ PARTS: Dict[str, Part] = {
     "module": Part(
         "the module naplps: its answers over the library and over the program, what it says where these fail or aren't "
         "there, and what it makes of pages; the module and the tool as pip installs them",
-        ("module", "module_faults", "module_lengths", "module_threads", "module_pages", "pip"),
+        ("module", "module_faults", "module_lengths", "module_pairs", "module_threads", "module_pages", "pip"),
     ),
     "old-files": Part(
         "files as an old disk has them: signatures, kinds, the eight-bit form, the census, borders, captures, pages "

@@ -50,7 +50,9 @@ RULES = (
     Rule("dist/browser/*", ("scripts/packages/test-browser", "scripts/test/test-webassembly")),
     Rule("dist/*", ("scripts/test/test-launcher", "scripts/test/test-inline-marks", *OF_PROGRAM)),
     Rule("crates.txt", ("scripts/prove/test-citations", *OF_PROGRAM)),
-    Rule("crates/nap_rows/data/*", ("scripts/vectors/test-rows",)),
+    Rule("crates/nap_rows/data/*", (
+        "scripts/vectors/test-rows", "scripts/test/test-batch", "scripts/test-pages module",
+    )),
     Rule("crates/*/README.md", ("scripts/prove/test-promises", SAID_ONCE, "scripts/test-pages commands")),
     Rule("crates/*/wrong-bodies/*", ("scripts/prove/test-wrong-bodies",)),
     Rule("crates/*/must-fail/*", ("scripts/prove/test-wrong-bodies",)),

@@ -8,11 +8,15 @@ from pathlib import Path
 USUAL = 1048576
 PART = re.compile(r'[0-9A-Fa-f]{2}|"[^"]*"|[()]|\*\d+')
 REPEATED = re.compile(r"(.+?) ?\*(\d+)")
+NUMBER = r"(\d+|-)"
+STOPS = r"[\d/* ]+"
+ITEM = re.compile(rf"(not )?plain|(budget|fed) \d+|(charged|turns) {NUMBER}|(stops|breaks) {STOPS}|form1 .+")
 
 
 @dataclass(frozen=True)
 class Row:
-    """A stream; the lines of its entries and its canonical stream, where the row tells them; or its refusal."""
+    """A stream; the lines of its entries, its canonical stream and its text in form 1, where the row tells them; or its
+    refusal; and whether it is plain, where the row tells that."""
 
     place: str
     stream: bytes
@@ -20,6 +24,8 @@ class Row:
     canonical: bytes | None
     refusal: str | None
     budget: int
+    plain: bool | None
+    form1: bytes | None
 
 
 def spelled(text: str) -> bytes:
@@ -57,18 +63,29 @@ def listed(text: str) -> list[str] | None:
     return lines
 
 
+def items_of(text: str) -> dict[str, str]:
+    """What stands behind each word of a fourth field; raises ValueError for an item that says nothing."""
+    items = [item.strip() for item in text.split(",") if item.strip()]
+    for item in items:
+        if not ITEM.fullmatch(item):
+            raise ValueError(f"an item says nothing: {item}")
+    return {word: rest for word, _, rest in (item.partition(" ") for item in items)}
+
+
 def row_of(place: str, text: str) -> Row:
-    """The row of a line that has one. (Rows name DEFT MACRO as the library does; the program's word is DEFT.)"""
-    stream, lines, wanted, *more = (field.strip() for field in text.split("|"))
-    budget = re.search(r"\bbudget (\d+)", more[0] if more else "")
+    """The row of a line that has one; raises ValueError for a line with too few fields or too many."""
+    stream, lines, wanted, more = (field.strip() for field in (text if text.count("|") > 2 else text + "|").split("|"))
+    items = items_of(more)
     refused = wanted.startswith("refused ")
     return Row(
         place,
         spelled(stream),
         listed(lines),
         None if refused or wanted == "-" else spelled(wanted),
-        wanted.replace("DEFT-MACRO", "DEFT") if refused else None,
-        int(budget[1]) if budget else USUAL,
+        wanted if refused else None,
+        int(items.get("budget", USUAL)),
+        True if "plain" in items else False if "not" in items else None,
+        spelled(items["form1"]) if "form1" in items else None,
     )
 
 

@@ -1,11 +1,8 @@
 //! What the libraries answer about a stream.
 use crate::notation::MOST;
 use crate::report::Report;
-use nap_command::Failure;
-use nap_lines::line_of;
-use nap_list::{CountSink, Entry, ListSink, Sink};
+use nap_list::{Entry, ListSink, Sink};
 use nap_reader::{Budget, Reader, Refusal};
-use std::alloc::{AllocError, Global};
 
 /// All that a reader answers about a stream.
 #[derive(Drop)]
@@ -79,7 +76,7 @@ fn feed_in<S: Sink>(report: &mut Report, reader: &mut Reader<S>, stream: &[u8], 
 }
 
 /// Ends the stream, and returns the sink and the refusal.
-pub fn end<S: Sink>(reader: Reader<S>) -> (S, Option<Refusal>) {
+fn end<S: Sink>(reader: Reader<S>) -> (S, Option<Refusal>) {
     match reader.finish() {
         Ok(sink) => (sink, None),
         Err(stopped) => (stopped.sink, Some(stopped.refusal)),
@@ -121,61 +118,4 @@ pub fn answer_in(report: &mut Report, budget: Budget, stream: &[u8], cut: Cut) -
         list: sink.into_list(),
         ..answer
     }
-}
-
-/// Returns the index of the byte that adds each entry, where each byte is a piece; the length for entries added at the
-/// end.
-pub fn places_in(
-    report: &mut Report,
-    budget: Budget,
-    stream: &[u8],
-) -> Result<Vec<u64>, AllocError> {
-    let alloc = report.alloc;
-    let mut reader = Reader::new(alloc, budget, CountSink::new());
-    let mut places = Vec::new(alloc);
-    let mut place: u64 = 0;
-    for byte in stream {
-        feed(report, &mut reader, &[*byte]);
-        place_new(&mut places, reader.sink().count(), place)?;
-        place = place.saturating_add(1);
-    }
-    place_new(&mut places, end(reader).0.count(), place)?;
-    Ok(places)
-}
-
-/// Appends this place for each of the `count` entries that has none yet.
-fn place_new(places: &mut Vec<u64>, count: u64, place: u64) -> Result<(), AllocError> {
-    for _ in places.len() as u64..count {
-        places.push(place)?;
-    }
-    Ok(())
-}
-
-/// Returns the lines of a list, each with LF.
-pub fn lines_of(alloc: Global, list: &[Entry]) -> Result<String, AllocError> {
-    let mut lines = String::new(alloc);
-    for entry in list {
-        lines.push_str(&line_of(alloc, entry)?)?;
-        lines.push('\n')?;
-    }
-    Ok(lines)
-}
-
-/// Returns how a stream ended, as a row has it: what the program prints of a refusal.
-pub fn ended(alloc: Global, refusal: Option<Refusal>) -> Result<String, AllocError> {
-    match refusal {
-        None => String::from_str(alloc, "accepted"),
-        Some(refusal) => String::from_str(alloc, Failure::from(refusal).line().as_str()),
-    }
-}
-
-/// Checks that a stream ended as wanted.
-pub fn same_end(
-    report: &mut Report,
-    wanted: Option<Refusal>,
-    came: Option<Refusal>,
-) -> Result<(), AllocError> {
-    let (wanted, came) = (ended(report.alloc, wanted)?, ended(report.alloc, came)?);
-    report.same_text("end", wanted.trim_end(), came.trim_end());
-    Ok(())
 }

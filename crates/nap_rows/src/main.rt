@@ -1,16 +1,16 @@
-//! Checks tables of streams against what the libraries answer. Its arguments name the tables, a file each.
+//! Checks the streams of tables where only Rust can: cuts, what is charged, and sinks and outlets with little space.
+//! Its arguments name the tables, a file each.
 //!
-//! A row is a line `STREAM | LIST | CANONICAL` of a stream that is accepted, or `STREAM | LIST | refused 10 Outside at 3` of
-//! one that is refused, with the entries before that. A line that begins with `#` is a comment, an empty one is nothing.
+//! A row is a line `STREAM | LIST | CANONICAL` of a stream that is accepted, or `STREAM | LIST | refused 10 Outside at 3`
+//! of one that is refused. Scripts try the program with LIST, CANONICAL and the refusal. A line that begins with `#`
+//! is a comment, an empty one is nothing.
 //!
-//! STREAM and CANONICAL are bytes: hexadecimal digits, texts in quotes as `"A"`, and groups in brackets. `40*7` is seven times
-//! 40, `(26 52)*3` three times 26 52. LIST has the lines of the entries, with `;` between: `LINE *3` is three such lines,
-//! and the word `0,0*3` three such words. LIST or CANONICAL is `-` if the row doesn't say it.
+//! STREAM is bytes: hexadecimal digits, texts in quotes as `"A"`, and groups in brackets. `40*7` is seven times 40,
+//! `(26 52)*3` three times 26 52.
 //!
-//! A fourth field has more, with `,` between: `budget N` (else the usual one), `charged N` (else 0), `turns N` (else as many as
-//! bytes, if nothing is charged), `fed N` bytes read, `places N ..` (the index of the byte that adds each entry), `form1 BYTES` (the
-//! text in form 1), `plain` and `not plain`. `charged -` and `turns -` are any number. `stops` and `breaks` say where sinks
-//! and outlets with little space stop the reading.
+//! A fourth field has more, with `,` between: `budget N` (else the usual one), `charged N` (else 0), `turns N` (else as
+//! many as bytes, if nothing is charged), `fed N` bytes read. `charged -` and `turns -` are any number. `stops` and
+//! `breaks` say where sinks and outlets with little space stop the reading.
 #![tactic(auto)]
 
 mod answer;

@@ -1,9 +1,6 @@
 //! What is wrong with a row.
 use std::alloc::{AllocError, Global};
 
-/// The greatest number of bytes of a text that are printed.
-const SHOWN: usize = 40;
-
 /// What is wrong with a row: the first fault reported.
 #[derive(Drop)]
 pub struct Report {
@@ -68,80 +65,13 @@ impl Report {
         }
     }
 
-    /// Reports what was wanted, and what came.
-    fn differ(&mut self, name: &str, wanted: &str, came: &str) {
-        match format!(in self.alloc; "{name}: `{wanted}` was wanted, `{came}` came") {
-            Ok(text) => self.tell(&text),
-            Err(AllocError) => self.lacks_memory = true,
-        }
-    }
-
-    /// Checks that a text is the wanted one.
-    pub fn same_text(&mut self, name: &str, wanted: &str, came: &str) {
-        if wanted != came {
-            self.differ(name, wanted, came);
-        }
-    }
-
     /// Checks that a count is the wanted one.
-    pub fn same_count(&mut self, name: &str, wanted: u64, came: u64) {
+    pub fn same_count(&mut self, what: &str, wanted: u64, came: u64) {
         if wanted != came {
-            match format!(in self.alloc; "{name}: {wanted} were wanted, {came} came") {
-                Ok(text) => self.tell(&text),
-                Err(AllocError) => self.lacks_memory = true,
-            }
+            let (name, number) = self.tried;
+            self.take(format!(in self.alloc;
+                "{name} {number}: {what}: {wanted} were wanted, {came} came"
+            ));
         }
     }
-
-    /// Checks that bytes are the wanted ones.
-    pub fn same_bytes(&mut self, name: &str, wanted: &[u8], came: &[u8]) {
-        if wanted == came {
-            return;
-        }
-        let pairs = wanted.iter().zip(came.iter());
-        let from = pairs.take_while(|(a, b)| **a == **b).count();
-        if self.differ_from(name, wanted, came, from).is_err() {
-            self.lacks_memory = true;
-        }
-    }
-
-    /// Reports which bytes were wanted from an index on, and which came.
-    fn differ_from(
-        &mut self,
-        name: &str,
-        wanted: &[u8],
-        came: &[u8],
-        from: usize,
-    ) -> Result<(), AllocError> {
-        let wanted = excerpt(self.alloc, wanted, from)?;
-        let came = excerpt(self.alloc, came, from)?;
-        self.differ(name, &wanted, &came);
-        Ok(())
-    }
-
-    /// Checks that lines, each with LF, are the wanted ones.
-    pub fn same_lines(&mut self, name: &str, wanted: &str, came: &str) {
-        if wanted == came {
-            return;
-        }
-        let mut others = came.lines();
-        for line in wanted.lines() {
-            match others.next() {
-                Some(other) if line == other => {}
-                Some(other) => return self.differ(name, line, other),
-                None => return self.differ(name, line, "none"),
-            }
-        }
-        match others.next() {
-            Some(other) => self.differ(name, "none", other),
-            None => self.differ(name, "none", "none"),
-        }
-    }
-}
-
-/// Returns some bytes from an index on, in hexadecimal, and the index.
-fn excerpt(alloc: Global, bytes: &[u8], from: usize) -> Result<String, AllocError> {
-    let rest = bytes.get(from..).unwrap_or(&[]);
-    let shown = hex::encode(alloc, rest.get(..SHOWN).unwrap_or(rest))?;
-    format!(in alloc; "{shown} from byte {from} on")
 }

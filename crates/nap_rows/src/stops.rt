@@ -1,7 +1,7 @@
 //! Streams that are read into sinks with little space.
-use crate::answer::{Answer, Cut, read_into, same_end};
+use crate::answer::{Answer, Cut, read_into};
 use crate::report::Report;
-use crate::row::{Row, Stop, stops_of};
+use crate::row::{Row, Stop};
 use nap_list::{Entry, SinkFault};
 use nap_reader::{Fault, Reader, Refusal};
 use nap_tests::faltering::Faltering;
@@ -33,7 +33,7 @@ fn check_stop(
     limit: Limit,
     stop: Option<Stop>,
     list: &[Entry],
-) -> Result<(), AllocError> {
+) {
     let fault = limit.fault;
     let sink = Faltering {
         failed: limit.failed,
@@ -42,7 +42,7 @@ fn check_stop(
     let reader = Reader::new(report.alloc, row.budget, sink);
     let (sink, answer) = read_into(report, reader, &row.stream, cut);
     let wanted = stop.map(|stop| refusal_at(fault, stop.place));
-    same_end(report, wanted, answer.refusal)?;
+    report.check(answer.refusal == wanted, "it ends otherwise");
     if let Some(stop) = stop {
         let all = row.stream.len() as u64;
         report.same_count("fed", stop.fed.unwrap_or(all), answer.fed);
@@ -52,7 +52,6 @@ fn check_stop(
     }
     let is_list = sink.list.into_list().as_slice() == list;
     report.check(is_list, "it has other entries");
-    Ok(())
 }
 
 /// Checks that a sink with this limit stops the reading as wanted, of the stream in one piece and byte by byte.
@@ -62,18 +61,17 @@ fn check_limit(
     limit: Limit,
     stop: Option<Stop>,
     list: &[Entry],
-) -> Result<(), AllocError> {
+) {
     for cut in [Cut::Whole, Cut::Single(true)] {
-        check_stop(report, row, cut, limit, stop, list)?;
+        check_stop(report, row, cut, limit, stop, list);
     }
-    Ok(())
 }
 
 /// Checks that sinks for no entry, for one, for two and so on stop the reading as the row says, for lack of memory and
 /// at their device. A sink that has failed stops it as one for no entry does, and a stream without entries isn't
 /// stopped.
 pub fn check_stops(report: &mut Report, row: &Row<'_>, answer: &Answer) -> Result<(), AllocError> {
-    let stops = stops_of(report, row.item("stops").unwrap_or(""))?;
+    let stops = row.stops(report, "stops")?;
     if !stops.is_empty() || (answer.list.is_empty() && answer.refusal.is_none()) {
         report.try_now("over a sink that has failed", 1);
         let limit = Limit {
@@ -81,7 +79,7 @@ pub fn check_stops(report: &mut Report, row: &Row<'_>, answer: &Answer) -> Resul
             fault: SinkFault::Write,
             failed: true,
         };
-        check_limit(report, row, limit, stops.first().copied(), &[])?;
+        check_limit(report, row, limit, stops.first().copied(), &[]);
     }
     for (space, stop) in stops.iter().enumerate() {
         report.try_now("over a sink that takes", space);
@@ -92,7 +90,7 @@ pub fn check_stops(report: &mut Report, row: &Row<'_>, answer: &Answer) -> Resul
                 fault,
                 failed: false,
             };
-            check_limit(report, row, limit, Some(*stop), list)?;
+            check_limit(report, row, limit, Some(*stop), list);
         }
     }
     Ok(())

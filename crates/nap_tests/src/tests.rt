@@ -15,7 +15,6 @@ mod growth;
 mod known;
 mod lines;
 mod lists;
-mod reader_pairs;
 mod reading;
 mod rows;
 mod samples;

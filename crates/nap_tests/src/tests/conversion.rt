@@ -6,6 +6,7 @@ use nap_list::{Inlet, Source, Target};
 use nap_reader::{Budget, Fault, Refusal};
 use std::alloc::{AllocError, Global};
 use std::io::Read;
+use std::process::Abort;
 use std::test::Fail;
 
 /// A point in the middle, and its canonical stream.
@@ -87,89 +88,6 @@ const USUAL: Row = Row {
 };
 
 const ROWS: &[Row] = &[
-    // A stream is read and written in pieces of any size.
-    Row {
-        input: b"\x0E\x26\x52",
-        gives: (64, 0),
-        takes: (64, 64),
-        ..USUAL
-    },
-    Row {
-        input: b"\x0E\x26\x52",
-        gives: (1, 0),
-        takes: (64, 64),
-        ..USUAL
-    },
-    Row {
-        input: b"\x0E\x26\x52",
-        gives: (64, 0),
-        takes: (64, 1),
-        ..USUAL
-    },
-    Row {
-        input: b"\x0E\x26\x52",
-        gives: (1, 0),
-        takes: (64, 1),
-        ..USUAL
-    },
-    Row {
-        input: b"\x0E\x26\x52",
-        gives: (2, 0),
-        takes: (64, 5),
-        ..USUAL
-    },
-    Row {
-        input: POINT,
-        gives: (64, 0),
-        takes: (64, 64),
-        ..USUAL
-    },
-    Row {
-        input: POINT,
-        gives: (1, 0),
-        takes: (64, 64),
-        ..USUAL
-    },
-    Row {
-        input: POINT,
-        gives: (64, 0),
-        takes: (64, 1),
-        ..USUAL
-    },
-    Row {
-        input: POINT,
-        gives: (1, 0),
-        takes: (64, 1),
-        ..USUAL
-    },
-    Row {
-        input: POINT,
-        gives: (2, 0),
-        takes: (64, 5),
-        ..USUAL
-    },
-    // The entries before a refusal are written.
-    Row {
-        input: MISSING,
-        gives: (64, 0),
-        takes: (64, 64),
-        answer: Err(NO_OPERAND),
-        ..USUAL
-    },
-    Row {
-        input: MISSING,
-        gives: (1, 0),
-        takes: (64, 64),
-        answer: Err(NO_OPERAND),
-        ..USUAL
-    },
-    Row {
-        input: MISSING,
-        gives: (64, 0),
-        takes: (64, 1),
-        answer: Err(NO_OPERAND),
-        ..USUAL
-    },
     // A failed flush is a write fault.
     Row {
         input: POINT,
@@ -254,55 +172,6 @@ const ROWS: &[Row] = &[
         calls: Some(2),
         ..USUAL
     },
-    // Any read may fail. An opcode whose operands may continue isn't executed then.
-    Row {
-        input: POINT,
-        gives: (1, 1),
-        answer: Err(ConvertFault::Read { written: 3 }),
-        kept: 3,
-        calls: Some(1),
-        ..USUAL
-    },
-    Row {
-        input: POINT,
-        gives: (1, 2),
-        answer: Err(ConvertFault::Read { written: 3 }),
-        kept: 3,
-        calls: Some(2),
-        ..USUAL
-    },
-    Row {
-        input: POINT,
-        gives: (1, 3),
-        answer: Err(ConvertFault::Read { written: 3 }),
-        kept: 3,
-        calls: Some(3),
-        ..USUAL
-    },
-    Row {
-        input: POINT,
-        gives: (1, 4),
-        answer: Err(ConvertFault::Read { written: 3 }),
-        kept: 3,
-        calls: Some(4),
-        ..USUAL
-    },
-    Row {
-        input: POINT,
-        gives: (1, 5),
-        answer: Err(ConvertFault::Read { written: 3 }),
-        kept: 3,
-        calls: Some(5),
-        ..USUAL
-    },
-    Row {
-        input: POINT,
-        gives: (1, 6),
-        answer: Err(ConvertFault::Read { written: 3 }),
-        kept: 3,
-        calls: Some(6),
-        ..USUAL
-    },
     // A body is charged to the budget.
     Row {
         input: MACRO,
@@ -320,8 +189,32 @@ const ROWS: &[Row] = &[
     },
 ];
 
-/// Whether a conversion from this reader leaves what the row says.
-fn leaves<R: Read + Drop>(alloc: Global, row: &Row, reader: R) -> bool {
+/// What a conversion leaves.
+#[derive(Drop)]
+struct Left {
+    output: Taker,
+    answer: Result<u64, ConvertFault>,
+    calls: u64,
+}
+
+impl Left {
+    /// Whether it is what the row says.
+    fn is(&self, row: &Row) -> bool {
+        let Left {
+            output,
+            answer,
+            calls,
+        } = self;
+        *answer == row.answer
+            && output.kept.as_slice() == &CANONICAL[..row.kept.min(12)]
+            && output.flushes == row.flushes
+            && *calls == row.calls.unwrap_or(*calls)
+            && output.writes == row.writes.unwrap_or(output.writes)
+    }
+}
+
+/// Converts what this reader gives.
+fn converted<R: Read + Drop>(alloc: Global, row: &Row, reader: R) -> Left {
     let budget = Budget::new(row.budget).unwrap_or(Budget::usual());
     let taker = Taker {
         good_flushes: row.good_flushes,
@@ -329,12 +222,22 @@ fn leaves<R: Read + Drop>(alloc: Global, row: &Row, reader: R) -> bool {
     };
     let mut input = Source::new(reader);
     let (output, answer) = convert(alloc, &mut input, Target::new(taker), budget);
-    let (taker, calls) = (output.into_inner(), input.calls());
-    answer == row.answer
-        && taker.kept.as_slice() == &CANONICAL[..row.kept.min(12)]
-        && taker.flushes == row.flushes
-        && calls == row.calls.unwrap_or(calls)
-        && taker.writes == row.writes.unwrap_or(taker.writes)
+    Left {
+        output: output.into_inner(),
+        answer,
+        calls: input.calls(),
+    }
+}
+
+/// Whether a conversion from this reader leaves what the row says.
+fn leaves<R: Read + Drop>(alloc: Global, row: &Row, reader: R) -> bool {
+    converted(alloc, row, reader).is(row)
+}
+
+/// Checks what a conversion leaves.
+fn check(rt: &(impl Abort + AllocGlobal), row: &Row, what: &str, number: u64) {
+    let giver = Giver::new(row.input, row.gives.0, row.gives.1);
+    assert!(rt; leaves(rt.alloc(), row, giver), "{what} {number}");
 }
 
 #[test]
@@ -342,8 +245,43 @@ fn conversions_end_as_their_devices_let_them(rt: HostRuntime) {
     let mut number: u64 = 0;
     for row in ROWS {
         number = number.wrapping_add(1);
-        let giver = Giver::new(row.input, row.gives.0, row.gives.1);
-        assert!(rt; leaves(rt.alloc(), row, giver), "row {number}");
+        check(&rt, row, "row", number);
+    }
+}
+
+// The entries before a refusal are written.
+#[test]
+fn streams_are_read_and_written_in_pieces_of_any_size(rt: HostRuntime) {
+    for (given, most) in [(64, 64), (1, 64), (64, 1), (1, 1), (2, 5)] {
+        for (input, answer) in [
+            (POINT, Ok(12)),
+            (&POINT[..3], Ok(12)),
+            (MISSING, Err(NO_OPERAND)),
+        ] {
+            let row = Row {
+                input,
+                gives: (given, 0),
+                takes: (64, most),
+                answer,
+                ..USUAL
+            };
+            check(&rt, &row, "in pieces of", given as u64);
+        }
+    }
+}
+
+// An opcode whose operands may continue isn't executed then.
+#[test]
+fn any_read_may_fail(rt: HostRuntime) {
+    for number in 1..=6 {
+        let row = Row {
+            gives: (1, number),
+            answer: Err(ConvertFault::Read { written: 3 }),
+            kept: 3,
+            calls: Some(number),
+            ..USUAL
+        };
+        check(&rt, &row, "read", number);
     }
 }
 

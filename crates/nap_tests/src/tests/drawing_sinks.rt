@@ -19,6 +19,13 @@ const FAULTS: [Why; 2] = [
     (SinkFault::Write, DrawFault::Sink),
 ];
 
+/// Whether a sink has these entries and then failed, and its fault was returned.
+fn stops(sink: Faltering, fault: Option<DrawFault>, want: &[Entry], why: Why) -> bool {
+    fault == Some(why.1)
+        && sink.failed == (why.0 == SinkFault::Write)
+        && sink.list.into_list().as_slice() == want
+}
+
 /// Whether an opcode at the start gives the first of these entries, and then its sink fails, with the work unchanged.
 #[tactic(auto, unfolding(nap_list::specs::State::walk))]
 fn falters(
@@ -35,12 +42,7 @@ fn falters(
     let mut sink = Faltering::new(alloc, want.len(), why.0);
     let work = Work::start();
     let answer = apply(alloc, &work, op, &run, &mut sink);
-    Ok(
-        answer.err() == Some(why.1)
-            && work == Work::start()
-            && sink.failed == (why.0 == SinkFault::Write)
-            && sink.list.into_list().as_slice() == want,
-    )
+    Ok(work == Work::start() && stops(sink, answer.err(), want, why))
 }
 
 /// An opcode with its operands, and entries that it gives before its last one.
@@ -97,10 +99,7 @@ fn second_falters(alloc: Global, first: &Code, second: &Code, want: &[Entry], wh
     };
     let before = work.copy();
     let answer = work.control(second, &mut sink);
-    answer.err() == Some(why.1)
-        && work == before
-        && sink.failed == (why.0 == SinkFault::Write)
-        && sink.list.into_list().as_slice() == want
+    work == before && stops(sink, answer.err(), want, why)
 }
 
 /// A letter, and a repetition of it.
