@@ -6,7 +6,6 @@ use nap_list::{Source, Target};
 use nap_reader::Budget;
 use std::alloc::Global;
 use std::io::Read;
-use std::process::Abort;
 
 const POINT: &[u8] = b"\x0E\x26\x52";
 
@@ -162,6 +161,176 @@ const ROWS: &[Row] = &[
         status: 1,
         ..LIST
     },
+    // A failed read isn't repeated, wherever it comes, although the bytes after it would make a page.
+    Row {
+        input: POINT,
+        gives: (1, 1),
+        reported: b"read fault\n",
+        status: 3,
+        reads: Some(1),
+        ..LIST
+    },
+    Row {
+        input: POINT,
+        gives: (1, 2),
+        reported: b"read fault\n",
+        status: 3,
+        reads: Some(2),
+        ..LIST
+    },
+    Row {
+        input: POINT,
+        gives: (1, 3),
+        reported: b"read fault\n",
+        status: 3,
+        reads: Some(3),
+        ..LIST
+    },
+    Row {
+        input: POINT,
+        gives: (1, 4),
+        reported: b"read fault\n",
+        status: 3,
+        reads: Some(4),
+        ..LIST
+    },
+    Row {
+        input: POINT,
+        gives: (1, 1),
+        reported: b"read fault\n",
+        status: 3,
+        reads: Some(1),
+        ..USUAL
+    },
+    Row {
+        input: POINT,
+        gives: (1, 2),
+        reported: b"read fault\n",
+        status: 3,
+        reads: Some(2),
+        ..USUAL
+    },
+    Row {
+        input: POINT,
+        gives: (1, 3),
+        reported: b"read fault\n",
+        status: 3,
+        reads: Some(3),
+        ..USUAL
+    },
+    Row {
+        input: POINT,
+        gives: (1, 4),
+        reported: b"read fault\n",
+        status: 3,
+        reads: Some(4),
+        ..USUAL
+    },
+    Row {
+        input: POINT,
+        gives: (1, 1),
+        reported: b"read fault\n",
+        status: 3,
+        reads: Some(1),
+        ..CANON
+    },
+    Row {
+        input: POINT,
+        gives: (1, 2),
+        reported: b"read fault\n",
+        status: 3,
+        reads: Some(2),
+        ..CANON
+    },
+    Row {
+        input: POINT,
+        gives: (1, 3),
+        reported: b"read fault\n",
+        status: 3,
+        reads: Some(3),
+        ..CANON
+    },
+    Row {
+        input: POINT,
+        gives: (1, 4),
+        reported: b"read fault\n",
+        status: 3,
+        reads: Some(4),
+        ..CANON
+    },
+    // After a refusal the rest is read all the same, and a read that fails there is reported instead.
+    Row {
+        input: b"\x80\x0E\x26",
+        gives: (1, 3),
+        reported: b"read fault\n",
+        status: 3,
+        reads: Some(3),
+        ..LIST
+    },
+    Row {
+        input: b"\x80\x0E\x26",
+        gives: (1, 4),
+        reported: b"read fault\n",
+        status: 3,
+        reads: Some(4),
+        ..LIST
+    },
+    Row {
+        input: b"\x80\x0E\x26",
+        gives: (1, 100),
+        reported: REFUSED,
+        status: 1,
+        reads: Some(4),
+        ..LIST
+    },
+    Row {
+        input: b"\x80\x0E\x26",
+        gives: (1, 3),
+        reported: b"read fault\n",
+        status: 3,
+        reads: Some(3),
+        ..USUAL
+    },
+    Row {
+        input: b"\x80\x0E\x26",
+        gives: (1, 4),
+        reported: b"read fault\n",
+        status: 3,
+        reads: Some(4),
+        ..USUAL
+    },
+    Row {
+        input: b"\x80\x0E\x26",
+        gives: (1, 100),
+        out: REFUSED,
+        status: 1,
+        reads: Some(4),
+        ..USUAL
+    },
+    Row {
+        input: b"\x80\x0E\x26",
+        gives: (1, 3),
+        reported: b"read fault\n",
+        status: 3,
+        reads: Some(3),
+        ..CANON
+    },
+    Row {
+        input: b"\x80\x0E\x26",
+        gives: (1, 4),
+        reported: b"read fault\n",
+        status: 3,
+        reads: Some(4),
+        ..CANON
+    },
+    Row {
+        input: b"\x80\x0E\x26",
+        gives: (1, 100),
+        reported: REFUSED,
+        status: 1,
+        reads: Some(4),
+        ..CANON
+    },
     // A failed standard error changes no status. It takes three bytes. The last input gives a byte and then fails.
     Row {
         hex: true,
@@ -266,7 +435,7 @@ const ROWS: &[Row] = &[
         flushes: Some((1, 0)),
         ..CANON
     },
-    // The report of a refusal is flushed, and so is the empty output.
+    // Reports of failures are flushed, and the empty output.
     Row {
         hex: true,
         input: b"80",
@@ -281,6 +450,58 @@ const ROWS: &[Row] = &[
         reported: REFUSED,
         status: 1,
         flushes: Some((1, 1)),
+        ..CANON
+    },
+    Row {
+        hex: true,
+        input: b"8",
+        reported: b"hex fault\n",
+        status: 3,
+        flushes: Some((1, 1)),
+        ..LIST
+    },
+    Row {
+        hex: true,
+        input: b"8",
+        reported: b"hex fault\n",
+        status: 3,
+        flushes: Some((1, 1)),
+        ..USUAL
+    },
+    Row {
+        hex: true,
+        input: b"8",
+        reported: b"hex fault\n",
+        status: 3,
+        flushes: Some((1, 1)),
+        ..CANON
+    },
+    // An output whose write failed isn't flushed any more; the report of that is.
+    Row {
+        hex: true,
+        input: b"0E2652",
+        takes: (0, ALL),
+        reported: b"write fault after 0 bytes\n",
+        status: 3,
+        flushes: Some((0, 1)),
+        ..LIST
+    },
+    Row {
+        hex: true,
+        input: b"0E2652",
+        takes: (0, ALL),
+        reported: b"write fault after 0 bytes\n",
+        status: 3,
+        flushes: Some((0, 1)),
+        ..USUAL
+    },
+    Row {
+        hex: true,
+        input: b"0E2652",
+        takes: (0, ALL),
+        reported: b"write fault after 0 bytes\n",
+        status: 3,
+        flushes: Some((0, 1)),
         ..CANON
     },
     // Failures leave what was printed: of the whole page, of one whose read fails in the open run of the point and
@@ -426,105 +647,16 @@ fn run<R: Read + Drop>(alloc: Global, row: &Row, input: R) -> Ended<R> {
     }
 }
 
-/// Checks how a command ends.
-fn check(rt: &(impl Abort + AllocGlobal), row: &Row, what: &str, number: u64) {
-    let ended = run(
-        rt.alloc(),
-        row,
-        Giver::new(row.input, row.gives.0, row.gives.1),
-    );
-    let reads = ended.input.reads;
-    let found = ended.is(row) && ended.is_sent() && row.reads.unwrap_or(reads) == reads;
-    assert!(rt; found, "{what} {number}");
-}
-
 #[test]
 fn commands_end_as_their_devices_let_them(rt: HostRuntime) {
     let mut number: u64 = 0;
     for row in ROWS {
         number = number.wrapping_add(1);
-        check(&rt, row, "row", number);
-    }
-}
-
-/// A command of each kind.
-const COMMANDS: [Row; 3] = [USUAL, LIST, CANON];
-
-// A failed read isn't repeated, wherever it comes, although the bytes after it would make a page.
-#[test]
-fn a_failed_read_ends_a_command(rt: HostRuntime) {
-    for command in COMMANDS {
-        for number in 1..=4 {
-            let row = Row {
-                input: POINT,
-                gives: (1, number),
-                reported: b"read fault\n",
-                status: 3,
-                reads: Some(number),
-                ..command
-            };
-            check(&rt, &row, "read", number);
-        }
-    }
-}
-
-// After a refusal the rest is read all the same, and a read that fails there is reported instead.
-#[test]
-fn a_refused_page_is_read_to_its_end(rt: HostRuntime) {
-    for command in COMMANDS {
-        let refused = Row {
-            input: b"\x80\x0E\x26",
-            gives: (1, 100),
-            out: if command.action == Action::Check {
-                REFUSED
-            } else {
-                b""
-            },
-            reported: if command.action == Action::Check {
-                b""
-            } else {
-                REFUSED
-            },
-            status: 1,
-            reads: Some(4),
-            ..command
-        };
-        check(&rt, &refused, "end", 4);
-        for number in 3..=4 {
-            let row = Row {
-                gives: (1, number),
-                out: b"",
-                reported: b"read fault\n",
-                status: 3,
-                reads: Some(number),
-                ..refused
-            };
-            check(&rt, &row, "read", number);
-        }
-    }
-}
-
-// The report of a failure is flushed, and so is the output, unless its write failed.
-#[test]
-fn reports_are_flushed(rt: HostRuntime) {
-    for command in COMMANDS {
-        let wrong = Row {
-            hex: true,
-            input: b"8",
-            reported: b"hex fault\n",
-            status: 3,
-            flushes: Some((1, 1)),
-            ..command
-        };
-        check(&rt, &wrong, "report", 1);
-        let unwritten = Row {
-            input: b"0E2652",
-            takes: (0, ALL),
-            reported: b"write fault after 0 bytes\n",
-            flushes: Some((0, 1)),
-            ..wrong
-        };
-        check(&rt, &unwritten, "report", 0);
+        let input = Giver::new(row.input, row.gives.0, row.gives.1);
+        let ended = run(rt.alloc(), row, input);
+        let reads = ended.input.reads;
+        let found = ended.is(row) && ended.is_sent() && row.reads.unwrap_or(reads) == reads;
+        assert!(rt; found, "row {number}");
     }
 }
 

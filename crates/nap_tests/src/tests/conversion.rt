@@ -6,7 +6,6 @@ use nap_list::{Inlet, Source, Target};
 use nap_reader::{Budget, Fault, Refusal};
 use std::alloc::{AllocError, Global};
 use std::io::Read;
-use std::process::Abort;
 use std::test::Fail;
 
 /// A point in the middle, and its canonical stream.
@@ -88,6 +87,89 @@ const USUAL: Row = Row {
 };
 
 const ROWS: &[Row] = &[
+    // A stream is read and written in pieces of any size.
+    Row {
+        input: b"\x0E\x26\x52",
+        gives: (64, 0),
+        takes: (64, 64),
+        ..USUAL
+    },
+    Row {
+        input: b"\x0E\x26\x52",
+        gives: (1, 0),
+        takes: (64, 64),
+        ..USUAL
+    },
+    Row {
+        input: b"\x0E\x26\x52",
+        gives: (64, 0),
+        takes: (64, 1),
+        ..USUAL
+    },
+    Row {
+        input: b"\x0E\x26\x52",
+        gives: (1, 0),
+        takes: (64, 1),
+        ..USUAL
+    },
+    Row {
+        input: b"\x0E\x26\x52",
+        gives: (2, 0),
+        takes: (64, 5),
+        ..USUAL
+    },
+    Row {
+        input: POINT,
+        gives: (64, 0),
+        takes: (64, 64),
+        ..USUAL
+    },
+    Row {
+        input: POINT,
+        gives: (1, 0),
+        takes: (64, 64),
+        ..USUAL
+    },
+    Row {
+        input: POINT,
+        gives: (64, 0),
+        takes: (64, 1),
+        ..USUAL
+    },
+    Row {
+        input: POINT,
+        gives: (1, 0),
+        takes: (64, 1),
+        ..USUAL
+    },
+    Row {
+        input: POINT,
+        gives: (2, 0),
+        takes: (64, 5),
+        ..USUAL
+    },
+    // The entries before a refusal are written.
+    Row {
+        input: MISSING,
+        gives: (64, 0),
+        takes: (64, 64),
+        answer: Err(NO_OPERAND),
+        ..USUAL
+    },
+    Row {
+        input: MISSING,
+        gives: (1, 0),
+        takes: (64, 64),
+        answer: Err(NO_OPERAND),
+        ..USUAL
+    },
+    Row {
+        input: MISSING,
+        gives: (64, 0),
+        takes: (64, 1),
+        answer: Err(NO_OPERAND),
+        ..USUAL
+    },
     // A failed flush is a write fault.
     Row {
         input: POINT,
@@ -172,6 +254,55 @@ const ROWS: &[Row] = &[
         calls: Some(2),
         ..USUAL
     },
+    // Any read may fail. An opcode whose operands may continue isn't executed then.
+    Row {
+        input: POINT,
+        gives: (1, 1),
+        answer: Err(ConvertFault::Read { written: 3 }),
+        kept: 3,
+        calls: Some(1),
+        ..USUAL
+    },
+    Row {
+        input: POINT,
+        gives: (1, 2),
+        answer: Err(ConvertFault::Read { written: 3 }),
+        kept: 3,
+        calls: Some(2),
+        ..USUAL
+    },
+    Row {
+        input: POINT,
+        gives: (1, 3),
+        answer: Err(ConvertFault::Read { written: 3 }),
+        kept: 3,
+        calls: Some(3),
+        ..USUAL
+    },
+    Row {
+        input: POINT,
+        gives: (1, 4),
+        answer: Err(ConvertFault::Read { written: 3 }),
+        kept: 3,
+        calls: Some(4),
+        ..USUAL
+    },
+    Row {
+        input: POINT,
+        gives: (1, 5),
+        answer: Err(ConvertFault::Read { written: 3 }),
+        kept: 3,
+        calls: Some(5),
+        ..USUAL
+    },
+    Row {
+        input: POINT,
+        gives: (1, 6),
+        answer: Err(ConvertFault::Read { written: 3 }),
+        kept: 3,
+        calls: Some(6),
+        ..USUAL
+    },
     // A body is charged to the budget.
     Row {
         input: MACRO,
@@ -234,54 +365,13 @@ fn leaves<R: Read + Drop>(alloc: Global, row: &Row, reader: R) -> bool {
     converted(alloc, row, reader).is(row)
 }
 
-/// Checks what a conversion leaves.
-fn check(rt: &(impl Abort + AllocGlobal), row: &Row, what: &str, number: u64) {
-    let giver = Giver::new(row.input, row.gives.0, row.gives.1);
-    assert!(rt; leaves(rt.alloc(), row, giver), "{what} {number}");
-}
-
 #[test]
 fn conversions_end_as_their_devices_let_them(rt: HostRuntime) {
     let mut number: u64 = 0;
     for row in ROWS {
         number = number.wrapping_add(1);
-        check(&rt, row, "row", number);
-    }
-}
-
-// The entries before a refusal are written.
-#[test]
-fn streams_are_read_and_written_in_pieces_of_any_size(rt: HostRuntime) {
-    for (given, most) in [(64, 64), (1, 64), (64, 1), (1, 1), (2, 5)] {
-        for (input, answer) in [
-            (POINT, Ok(12)),
-            (&POINT[..3], Ok(12)),
-            (MISSING, Err(NO_OPERAND)),
-        ] {
-            let row = Row {
-                input,
-                gives: (given, 0),
-                takes: (64, most),
-                answer,
-                ..USUAL
-            };
-            check(&rt, &row, "in pieces of", given as u64);
-        }
-    }
-}
-
-// An opcode whose operands may continue isn't executed then.
-#[test]
-fn any_read_may_fail(rt: HostRuntime) {
-    for number in 1..=6 {
-        let row = Row {
-            gives: (1, number),
-            answer: Err(ConvertFault::Read { written: 3 }),
-            kept: 3,
-            calls: Some(number),
-            ..USUAL
-        };
-        check(&rt, &row, "read", number);
+        let giver = Giver::new(row.input, row.gives.0, row.gives.1);
+        assert!(rt; leaves(rt.alloc(), row, giver), "row {number}");
     }
 }
 
@@ -331,39 +421,48 @@ fn an_endless_input_is_a_read_fault(rt: HostRuntime) {
     assert!(rt; ends && fails);
 }
 
-/// Returns the bytes, and then `count` copies of a piece.
-fn repeated(
-    alloc: Global,
-    prefix: &[u8],
-    piece: &[u8],
-    count: usize,
-) -> Result<Vec<u8>, AllocError> {
-    let mut bytes = Vec::from_slice(alloc, prefix)?;
+/// Appends copies of a piece.
+fn repeat(bytes: &mut Vec<u8>, piece: &[u8], count: usize) -> Result<(), AllocError> {
     for _ in 0..count {
         bytes.extend_from_slice(piece)?;
     }
+    Ok(())
+}
+
+/// Returns 5,000 points of one run.
+fn many_points(alloc: Global) -> Result<Vec<u8>, AllocError> {
+    let mut bytes = Vec::from_slice(alloc, b"\x0E\x26")?;
+    repeat(&mut bytes, &POINT[2..], 5_000)?;
     Ok(bytes)
+}
+
+/// Returns their canonical stream, whose runs have an end.
+fn text_of_many_points(alloc: Global) -> Result<Vec<u8>, AllocError> {
+    let mut text = Vec::from_slice(alloc, b"\x0E\x21\x5F")?;
+    for count in [2_048, 2_048, 904] {
+        text.push(0x26)?;
+        repeat(&mut text, &CANONICAL[4..], count)?;
+    }
+    Ok(text)
+}
+
+/// Whether a conversion writes this text, from an input that gives so many bytes at a read.
+fn writes(alloc: Global, bytes: &[u8], text: &[u8], most: usize) -> bool {
+    let mut input = Source::new(Giver::new(bytes, most, 0));
+    let output = Target::new(Taker::wide(alloc));
+    let (output, answer) = convert(alloc, &mut input, output, Budget::usual());
+    let taker = output.into_inner();
+    answer == Ok(40_006) && taker.flushes == 1 && taker.kept.as_slice() == text
 }
 
 #[test]
 fn a_stream_may_be_longer_than_a_read(rt: HostRuntime) -> Result<(), Fail> {
     let alloc = rt.alloc();
-    let bytes = repeated(alloc, b"\x0E\x26", &POINT[2..], 5_000)?;
-    let want = [
-        repeated(alloc, b"\x0E\x21\x5F\x26", &CANONICAL[4..], 2_048)?,
-        repeated(alloc, b"\x26", &CANONICAL[4..], 2_048)?,
-        repeated(alloc, b"\x26", &CANONICAL[4..], 904)?,
-    ]
-    .concat(alloc)?;
-    let text = normalise(alloc, Budget::usual(), &bytes).map_err(|_| AllocError)?;
-    assert!(rt; text.as_slice() == want.as_slice());
+    let (bytes, text) = (many_points(alloc)?, text_of_many_points(alloc)?);
+    let found = normalise(alloc, Budget::usual(), &bytes);
+    assert!(rt; found.is_ok_and(|found| found == text));
     for most in [1, 7, bytes.len()] {
-        let mut input = Source::new(Giver::new(&bytes, most, 0));
-        let output = Target::new(Taker::wide(alloc));
-        let (output, answer) = convert(alloc, &mut input, output, Budget::usual());
-        let taker = output.into_inner();
-        let found = answer == Ok(40_006) && taker.flushes == 1 && taker.kept == want;
-        assert!(rt; found, "by {most}");
+        assert!(rt; writes(alloc, &bytes, &text, most), "by {most}");
     }
     Ok(())
 }

@@ -9,18 +9,10 @@ use std::process::Abort;
 use std::test::Fail;
 
 /// Feeds a piece, with few bytes before it.
-pub fn feed<S: Sink>(rt: &impl Abort, reader: &mut Reader<S>, piece: &[u8]) -> Result<(), Refusal> {
+fn feed<S: Sink>(rt: &impl Abort, reader: &mut Reader<S>, piece: &[u8]) -> Result<(), Refusal> {
     assert!(rt; reader.fed() < 1 << 32);
     assert!(rt; piece.len() < 1 << 32);
     reader.feed(piece)
-}
-
-/// Ends the stream, and returns the sink and the refusal.
-pub fn end<S: Sink>(reader: Reader<S>) -> (S, Option<Refusal>) {
-    match reader.finish() {
-        Ok(sink) => (sink, None),
-        Err(stopped) => (stopped.sink, Some(stopped.refusal)),
-    }
 }
 
 /// Whether the bytes are accepted so far, and these are their entries before the end comes.
@@ -40,30 +32,6 @@ fn an_open_run_has_no_entry_yet(rt: HostRuntime) -> Result<(), Fail> {
         begins(&rt, alloc, b"\x0E&R@@)P@@", &point),
     ];
     assert!(rt; found == [true; 3]);
-    Ok(())
-}
-
-const EIGHTH_BIT: Refusal = Refusal {
-    fault: Fault::EighthBit,
-    place: 3,
-};
-
-#[test]
-#[tactic(auto, unfolding(nap_list::specs::State::walk))]
-fn a_refusal_stays(rt: HostRuntime) -> Result<(), Fail> {
-    let alloc = rt.alloc();
-    let mut reader = Reader::new(alloc, Budget::usual(), ListSink::new(alloc));
-    let taken = feed(&rt, &mut reader, b"\x0E&R").is_ok() && reader.refused().is_none();
-    assert!(rt; taken);
-    for piece in [b"\x80", b"&"] {
-        let refused = feed(&rt, &mut reader, piece) == Err(EIGHTH_BIT)
-            && reader.refused() == Some(EIGHTH_BIT)
-            && (reader.fed(), reader.turns()) == (4, 4);
-        assert!(rt; refused, "by {piece:?}");
-    }
-    let (sink, refusal) = end(reader);
-    let stays = refusal == Some(EIGHTH_BIT) && sink.into_list() == entries_of(alloc, &[DOT])?;
-    assert!(rt; stays);
     Ok(())
 }
 
