@@ -170,6 +170,20 @@ const ROWS: &[Row] = &[
         answer: Err(NO_OPERAND),
         ..USUAL
     },
+    Row {
+        input: MISSING,
+        gives: (1, 0),
+        takes: (64, 1),
+        answer: Err(NO_OPERAND),
+        ..USUAL
+    },
+    Row {
+        input: MISSING,
+        gives: (2, 0),
+        takes: (64, 5),
+        answer: Err(NO_OPERAND),
+        ..USUAL
+    },
     // A failed flush is a write fault.
     Row {
         input: POINT,
@@ -436,7 +450,7 @@ fn many_points(alloc: Global) -> Result<Vec<u8>, AllocError> {
     Ok(bytes)
 }
 
-/// Returns their canonical stream, whose runs have an end.
+/// Returns their canonical stream, in runs of at most 2,048 points.
 fn text_of_many_points(alloc: Global) -> Result<Vec<u8>, AllocError> {
     let mut text = Vec::from_slice(alloc, b"\x0E\x21\x5F")?;
     for count in [2_048, 2_048, 904] {
