@@ -1,7 +1,8 @@
 """The clauses and definitions of the crates, and a sum over them.
 
 What a wrong body is refused by are the clauses of src/ and the definitions of specs/, of its crate and of all crates
-below. So all of a source counts but the bodies of its functions, comments and the layout. Tests don't count.
+below. So all of a source counts but the bodies of its functions, comments and the layout, and of imports how they are
+grouped. Tests don't count.
 """
 import hashlib
 import re
@@ -17,6 +18,7 @@ UNREAD = re.compile(
 MARKS = re.compile(r"(?P<begins>/\*)|\*/")
 TOKEN = re.compile(rf"{UNREAD.pattern}|\w+|\S", re.DOTALL)
 CLAUSE = re.compile(r"\b(?:requires|ensures|decreases)\b(?:\s+\w+)?\s*\{")
+IMPORT = re.compile(r"(?P<head>(?:unfoldable )?(?:pub )?use \S+\.)\{(?P<names>[^}]*)\}")
 ITEM = re.compile(
     r"^(?P<owner>(?:pub(?:\([^)]*\))?\s+)?(?:unsafe\s+)?(?:trait|impl)\b)|\bfn\s+(?P<function>\w+)", re.MULTILINE
 )
@@ -141,14 +143,22 @@ def is_tested(path: Path) -> bool:
     return "tests" in path.parts or path.name == "tests.rt"
 
 
+def imports_in(lines: List[str]) -> List[str]:
+    """What lines of the logic import, a name a line, in an order that doesn't hang on how the imports are grouped."""
+    groups = filter(None, map(IMPORT.fullmatch, lines))
+    return sorted(found["head"] + name.strip() for found in groups for name in found["names"].split(","))
+
+
 def _said_by(crate: Path) -> Iterator[str]:
     """All that a crate's clauses and definitions say, in an order that doesn't hang on the names of sources."""
     sources = [path for path in (crate / "src").rglob("*.rt") if not is_tested(path.relative_to(crate))]
     yield from sorted(Source.of(path.read_text("utf-8")).without_bodies() for path in sources)
     for path in sorted((crate / "specs").rglob("*.antt")):
         yield f"specs {path.relative_to(crate)}"
-        lines = (line.rstrip() for line in path.read_text("utf-8").splitlines())
-        yield from (line for line in lines if line and not line.lstrip().startswith("--"))
+        lines = [line.rstrip() for line in path.read_text("utf-8").splitlines()]
+        yield from imports_in(lines)
+        said = (line for line in lines if line and not IMPORT.fullmatch(line))
+        yield from (line for line in said if not line.lstrip().startswith("--"))
 
 
 class Sums:

@@ -39,7 +39,13 @@ trait Halves {
 
 fn apart() {}
 '''
-SPEC = "-- Halves, and what they are of.\nhalf : ℕ → ℕ\nhalf n = n / 2\n"
+SPEC = """-- Halves, and what they are of.
+use low.specs.Sizes.{size, most}
+pub use low.specs.Signs.{sign}
+
+half : ℕ → ℕ
+half n = n / 2
+"""
 
 
 class Clauses(unittest.TestCase):
@@ -80,7 +86,11 @@ class Clauses(unittest.TestCase):
             ("high", "src/lib.rt", "even: { number < 64 }", "even: { number < 65 }", True),
             ("low", "src/lib.rt", "u32 = 64", "u32 = 65", True),
             ("low", "src/lib.rt", "number: u32,", "number: u64,", True),
-            ("low", "specs/Half.antt", "n / 2", "n / 3", True), ("high", "src/lib.rt", "fn of", "fn from", True),
+            ("low", "specs/Half.antt", "n / 2", "n / 3", True),
+            ("low", "specs/Half.antt", "Sizes.{size, most}", "{Sizes.most, Sizes.size}", False),
+            ("low", "specs/Half.antt", "{size, most}", "{size, least as most}", True),
+            ("low", "specs/Half.antt", "pub use", "use", True),
+            ("high", "src/lib.rt", "fn of", "fn from", True),
             ("high", "src/lib.rt", "number / 2 }", "number }", False),
             ("high", "src/lib.rt", "// What it gives.", "// ensures { nothing }", False),
             ("low", "specs/Half.antt", "-- Halves, and what they are of.", "-- Halves.", False),

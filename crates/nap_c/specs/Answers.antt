@@ -1,20 +1,12 @@
 use Rattle.std.specs.Prelude.{Bool, Err, List, Ok, Result, Some, [], drop, false, length, true, ℕ, ◌++◌, ◌-◌, ◌<◌, ◌^◌, ◌≡◌, ◌≢◌, ◌≤◌, ◌⊎◌}
 use lib.ListN.{replicate}
 use Rattle.nap_canon.specs.Names.{BreaksWithin, Fault, LacksWithin, Refusal, means, refusal}
-use Rattle.nap_canon.specs.Streams.{IsAccepted, list_of}
-use Rattle.nap_reader.specs.Budgets.{most_budget}
-use Rattle.nap_reader.specs.Faults.{number_of}
-use Rattle.nap_command.specs.Failures.{fault_text}
-use Rattle.nap_command.specs.Answers.{IsAnswer, places, refused_line}
-use Rattle.nap_make.specs.declared.lines.MakeFault.{MakeFault}
-use Rattle.nap_make.specs.Making.{IsMadeOf}
-use Rattle.nap_make.specs.Texts.{DeniesLines}
+use Rattle.nap_canon.specs.{Streams.IsAccepted, Streams.list_of, Text.text}
+use Rattle.nap_reader.specs.{Budgets.most_budget, Faults.number_of}
+use Rattle.nap_command.specs.{Failures.fault_text, Answers.IsAnswer, Answers.places, Answers.refused_line, Commands.count_line, declared.batch.request.Question.Question}
+use Rattle.nap_make.specs.{declared.lines.MakeFault.MakeFault, Making.IsMadeOf, Texts.DeniesLines}
 use Rattle.nap_lines.specs.Listing.{lines}
-use Rattle.nap_canon.specs.Text.{text}
-use Rattle.nap_command.specs.Commands.{count_line}
-use Rattle.nap_command.specs.declared.batch.request.Question.{Question}
-use Rattle.nap_c.specs.declared.answer.Answer.{Answer}
-use Rattle.nap_c.specs.declared.made.Made.{Made}
+use Rattle.nap_c.specs.{declared.answer.Answer.Answer, declared.made.Made.Made}
 
 -- A page is accepted, and this is the text that was asked for.
 pub record IsTextOf (budget : ℕ) (p whole text : List ℕ) : Type 0 where

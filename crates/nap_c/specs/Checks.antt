@@ -3,8 +3,7 @@ use Rattle.nap_list.specs.declared.count_sink.CountSink.{CountSink}
 use Rattle.nap_canon.specs.Names.{Fault, Refusal, begun, start}
 use Rattle.nap_reader.specs.ReaderAnswers.{HasRead, budget_of, fed_of, refusal_of}
 use Rattle.nap_reader.specs.Budgets.{most_budget}
-use Rattle.nap_c.specs.declared.answer.Answer.{Answer}
-use Rattle.nap_c.specs.declared.pieces.Check.{Check}
+use Rattle.nap_c.specs.{declared.answer.Answer.Answer, declared.pieces.Check.Check}
 use Rattle.nap_c.specs.Answers.{AnswersNoBudget, CountsInBudget, accepted_answer, memory_answer, not_begun_answer}
 
 -- A page that is checked in pieces.

@@ -1,13 +1,8 @@
 use base.Stored.{Coded}
 use base.Fml.{Fml, ftrue, fsep, fex}
 use denote.RawPtr.{Ptr, block_ptr, null_ptr}
-use Rattle.std.specs.Prelude.{◌≡◌}
-use Rattle.std.specs.Coded.{coded_option}
-use Rattle.std.specs.Box.Ownership.{box_owns}
-use Rattle.std.specs.declared.option.Option.{Option}
+use Rattle.std.specs.{Prelude.◌≡◌, Coded.coded_option, Box.Ownership.box_owns, declared.option.Option.Option, declared.alloc.Global.Global, contracts.impls.GlobalAllocator.TheImpl.ghosts}
 use Rattle.std.specs.declared.option.Option.TheVariants.{None, Some}
-use Rattle.std.specs.declared.alloc.Global.{Global}
-use Rattle.std.specs.contracts.impls.GlobalAllocator.TheImpl.{ghosts}
 use Rattle.nap_c.specs.contracts.pieces.Check.{the_row}
 
 -- What C keeps of a page that is checked in pieces.

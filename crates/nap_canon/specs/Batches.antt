@@ -1,15 +1,10 @@
 use Rattle.std.specs.Prelude.{Bool, Err, List, None, Ok, Result, [], drop, false, if◌then◌else◌, length, slice_index, suc, take, true, zero, ℕ, ◌*◌, ◌++◌, ◌+◌, ◌-◌, ◌/◌, ◌<◌, ◌∷◌, ◌≡◌, ◌≤◌, ◌⊎◌}
 use Rattle.nap_canon.specs.Names.{Attributes, Batch, Coordinates, Entry, Put, SinkModel, State, TakesAll, batch_entries, format_effector, hand_attributes, hand_of, ink_attributes, ink_of, last_point, point_attributes, point_bytes, sink_model, walk}
-use Rattle.nap_codes.specs.declared.code_set.CharSet.TheVariants.{Primary}
-use Rattle.nap_codes.specs.declared.code_set.GSet.TheVariants.{G0}
-use Rattle.nap_list.specs.declared.attribute.Pen.TheVariants.{At}
+use Rattle.nap_codes.specs.{declared.code_set.CharSet.TheVariants.Primary, declared.code_set.GSet.TheVariants.G0}
+use Rattle.nap_list.specs.{declared.attribute.Pen.TheVariants.At, declared.sink.SinkFault.TheVariants.Write}
 use Rattle.nap_list.specs.declared.device.Outlet as outlet
-use Rattle.nap_list.specs.declared.sink.SinkFault.TheVariants.{Write}
-use Rattle.nap_canon.specs.declared.text.Form.{Form}
-use Rattle.nap_canon.specs.declared.text.Form.TheVariants.{Two}
-use Rattle.nap_canon.specs.declared.text_end.TextEnd.{TextEnd}
+use Rattle.nap_canon.specs.{declared.text.Form.Form, declared.text.Form.TheVariants.Two, declared.text_end.TextEnd.TextEnd, Sinking.Canonical, Sinking.Took, Sinking.Broke}
 use Rattle.nap_canon.specs.declared.text_end.TextEnd.TheVariants.{NoRun, InRun}
-use Rattle.nap_canon.specs.Sinking.{Canonical, Took, Broke}
 use Rattle.nap_canon.specs.Text.{gl_of, shift_to_opcodes, shift_to_primary, joins_open_run, run_after, pieces_bytes, text_end_after, entry_pieces, pieces}
 
 -- Batches in a sink of canonical text.

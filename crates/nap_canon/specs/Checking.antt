@@ -1,8 +1,5 @@
 use Rattle.std.specs.Prelude.{Bool, None, Option, Some, false, if◌then◌else◌, true, ℕ, ◌%◌, ◌==◌}
-use Rattle.nap_canon.specs.Names.{Code, CodeSet, Opcode}
-use Rattle.nap_canon.specs.declared.plain.CodesSeen.{CodesSeen}
-use Rattle.nap_canon.specs.declared.plain.Expected.{Expected}
-use Rattle.nap_canon.specs.declared.plain.PlainCheck.{PlainCheck}
+use Rattle.nap_canon.specs.{Names.Code, Names.CodeSet, Names.Opcode, declared.plain.CodesSeen.CodesSeen, declared.plain.Expected.Expected, declared.plain.PlainCheck.PlainCheck}
 
 -- The check of a plain stream, code after code.
 

@@ -1,7 +1,6 @@
 use Rattle.std.specs.Prelude.{Bool, Err, Ok, Result, false, true, ℕ, ◌≡◌}
-use Rattle.nap_canon.specs.Names.{FeedFault, Keeps, flush_count}
+use Rattle.nap_canon.specs.{Names.FeedFault, Names.Keeps, Names.flush_count, declared.conversion.ConvertFault.ConvertFault}
 use Rattle.nap_list.specs.declared.device.Outlet as outlet
-use Rattle.nap_canon.specs.declared.conversion.ConvertFault.{ConvertFault}
 
 -- an output before its end and after it: nothing more was written, and it was flushed unless a write had failed
 pub record EndsOutput {O : Type 0} (o : outlet.Ghosts O) (old new : O) : Type 0 where

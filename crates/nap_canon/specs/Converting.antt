@@ -1,9 +1,7 @@
 use Rattle.std.specs.Prelude.{Bool, Err, List, None, Ok, Result, Some, false, length, min, true, ℕ, ◌++◌, ◌-◌, ◌<◌, ◌^◌, ◌≡◌, ◌⊎◌}
 use Rattle.nap_canon.specs.Names.{Cause, Entry, IsCutOff, IsReadWhole, LacksWithin, LastRead, NoneFailed, Reading, Refusal, begun, cause_of, device, means, memory, stream}
 use Rattle.nap_list.specs.declared.device.Inlet as inlet
-use Rattle.nap_canon.specs.declared.conversion.ConvertFault.{ConvertFault}
-use Rattle.nap_canon.specs.Streams.{list_of, IsCanonicalOf}
-use Rattle.nap_canon.specs.Text.{text}
+use Rattle.nap_canon.specs.{declared.conversion.ConvertFault.ConvertFault, Streams.list_of, Streams.IsCanonicalOf, Text.text}
 
 -- A stream is converted: the bytes p were read, and the output took q.
 

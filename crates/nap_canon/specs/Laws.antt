@@ -1,11 +1,6 @@
 use Rattle.std.specs.Prelude.{IsSome, List, None, length, ℕ, ◌++◌, ◌↔◌, ◌≡◌, ◌≤◌}
 use Rattle.nap_canon.specs.Names.{AllFit, AllInRange, Entry, Fits, Legal, OperandLengths, attributes, begun, means, start, start_sets, walk, with_attributes, with_run}
-use Rattle.nap_canon.specs.declared.text.Form.{Form}
-use Rattle.nap_canon.specs.Acting.{AllActUnderEightAndFour}
-use Rattle.nap_canon.specs.Preludes.{prelude}
-use Rattle.nap_canon.specs.Commands.{effects}
-use Rattle.nap_canon.specs.Plain.{IsPlain}
-use Rattle.nap_canon.specs.Streams.{IsAccepted, list_of, IsCanonicalOf}
+use Rattle.nap_canon.specs.{declared.text.Form.Form, Acting.AllActUnderEightAndFour, Preludes.prelude, Commands.effects, Plain.IsPlain, Streams.IsAccepted, Streams.list_of, Streams.IsCanonicalOf}
 use Rattle.nap_canon.specs.Text.{gl_of, text_end_after_header, text_in, text, text1, pieces_bytes, pieces, text_end_after}
 
 -- The prelude of an entry that fits makes its attributes current.

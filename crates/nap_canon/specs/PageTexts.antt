@@ -1,7 +1,5 @@
 use Rattle.std.specs.Prelude.{Err, List, Ok, Result, Some, length, ℕ, ◌≡◌, ◌≢◌}
-use Rattle.nap_canon.specs.Names.{BreaksWithin, Fault, IsCount, Refusal, means}
-use Rattle.nap_canon.specs.declared.text.PageText.{PageText}
-use Rattle.nap_canon.specs.Streams.{list_of, IsCanonicalOf}
+use Rattle.nap_canon.specs.{Names.BreaksWithin, Names.Fault, Names.IsCount, Names.Refusal, Names.means, declared.text.PageText.PageText, Streams.list_of, Streams.IsCanonicalOf}
 
 -- The canonical text of a page, which is written in memory as the page is read.
 

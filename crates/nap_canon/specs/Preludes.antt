@@ -1,8 +1,7 @@
 use Rattle.std.specs.Prelude.{Bool, List, None, Option, Some, [], if◌then◌else◌, ℕ, ◌&&◌, ◌++◌, ◌==◌, ◌∷◌}
 use Rattle.nap_canon.specs.Names.{Attributes, Base, CharSize, Colour, Displacement, Drawing, Pen, TextLook, Texture}
 use Rattle.nap_canon.specs.Equality.{same_move, same_pen, same_colour, same_base, same_size, same_texture, same_flag}
-use Rattle.nap_canon.specs.Commands.{Command}
-use Rattle.nap_canon.specs.declared.pending.prelude.Flag.{Flag}
+use Rattle.nap_canon.specs.{Commands.Command, declared.pending.prelude.Flag.Flag}
 
 -- The prelude of an entry: the commands that make its attributes current, for each that isn't.
 

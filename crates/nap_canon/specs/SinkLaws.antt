@@ -1,15 +1,10 @@
 use Rattle.std.proofs.Common.{ℕ, ◌≡◌, ◌+◌, ◌<◌, Bool, true, false, List, [], ◌++◌, length, take, refl, ap, sym, subst, ◌∙◌, append_assoc, length-append, arith}
-use Rattle.std.proofs.lemmas.List.{take-append-le}
-use Rattle.std.proofs.Math.Seq.{take-append-add}
+use Rattle.std.proofs.{lemmas.List.take-append-le, Math.Seq.take-append-add}
 use Rattle.nap_canon.specs.Names.{Entry, Grows, Sending, Sends, SendsAll, State, grows_more, grows_none, walk}
-use Rattle.nap_canon.specs.declared.text_end.TextEnd.{TextEnd}
-use Rattle.nap_canon.specs.declared.text.Form.{Form}
+use Rattle.nap_canon.specs.{declared.text_end.TextEnd.TextEnd, declared.text.Form.Form, Spelling.Piece, Text.pieces_bytes, Text.text_end_after, Text.pieces, Text.entry_pieces, TextParts.pieces_bytes-append, TextParts.text_end_after-append, TextParts.pieces-append}
 use Rattle.nap_list.specs.declared.device.Outlet as outlet
 use Rattle.nap_list.proofs.PublicLaws.{walks_join}
-use Rattle.nap_canon.specs.Spelling.{Piece}
-use Rattle.nap_canon.specs.Text.{pieces_bytes, text_end_after, pieces, entry_pieces}
 use Rattle.nap_canon.specs.Sinking.{Canonical, sending_of, entry_bytes, entry_bytes_after, Took, Broke}
-use Rattle.nap_canon.specs.TextParts.{pieces_bytes-append, text_end_after-append, pieces-append}
 
 -- laws of sending: no bytes, and bytes after others
 

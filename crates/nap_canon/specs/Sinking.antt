@@ -1,8 +1,6 @@
 use Rattle.std.specs.Prelude.{List, false, length, take, true, ℕ, ◌++◌, ◌<◌, ◌≡◌}
 use Rattle.nap_canon.specs.Names.{Entry, Grows, Sending, Sends, SendsAll, State, sending, start, walk}
-use Rattle.nap_canon.specs.declared.text_end.TextEnd.{TextEnd}
-use Rattle.nap_canon.specs.declared.text.Form.{Form}
-use Rattle.nap_canon.specs.declared.text.Form.TheVariants.{Two}
+use Rattle.nap_canon.specs.{declared.text_end.TextEnd.TextEnd, declared.text.Form.Form, declared.text.Form.TheVariants.Two}
 use Rattle.nap_list.specs.declared.device.Outlet as outlet
 use Rattle.nap_canon.specs.Text.{header, text_end_after_header, pieces_bytes, text_end_after, pieces, entry_pieces, text}
 

@@ -1,10 +1,6 @@
 use Rattle.std.specs.Prelude.{Bool, List, None, Option, Some, [], if◌then◌else◌, map, ℕ, ◌%◌, ◌++◌, ◌+◌, ◌==◌, ◌∷◌}
 use Rattle.nap_canon.specs.Names.{Area, CharSet, Colour, Components, Coordinates, CursorKind, Drawing, Entry, Mask, Pen, Size, TextStep, addr_bytes, displacement_to, format_effector, grb_bytes, move_bytes, point_bytes}
-use Rattle.nap_canon.specs.Commands.{Command}
-use Rattle.nap_canon.specs.declared.pending.prelude.Flag.{Flag}
-use Rattle.nap_canon.specs.declared.text.Form.{Form}
-use Rattle.nap_canon.specs.Preludes.{colour_prelude}
-use Rattle.nap_canon.specs.Equality.{same_pen}
+use Rattle.nap_canon.specs.{Commands.Command, declared.pending.prelude.Flag.Flag, declared.text.Form.Form, Preludes.colour_prelude, Equality.same_pen}
 
 -- a piece of canonical text
 pub data Piece : Type 0 where

@@ -1,6 +1,5 @@
 use Rattle.std.specs.Prelude.{List, None, length, ℕ, ◌≡◌, ◌⊎◌}
-use Rattle.nap_canon.specs.Names.{BreaksWithin, Entry, means}
-use Rattle.nap_canon.specs.Text.{text}
+use Rattle.nap_canon.specs.{Names.BreaksWithin, Names.Entry, Names.means, Text.text}
 
 -- the stream is accepted
 abbrev pub IsAccepted : ℕ → List ℕ → Type 0

@@ -1,11 +1,8 @@
 use Rattle.std.specs.Prelude.{Bool, List, [], false, if◌then◌else◌, length, map, nat_le, ℕ, ◌&&◌, ◌++◌, ◌+◌, ◌==◌, ◌∷◌}
 use Rattle.nap_canon.specs.Names.{Entry, GSet, State, after, attributes, run_limit, start, with_attributes}
 use Rattle.nap_codes.specs.declared.code_set.GSet.TheVariants.{G0, G1}
-use Rattle.nap_canon.specs.declared.text.Form.{Form}
-use Rattle.nap_canon.specs.declared.text_end.Run.{Run}
-use Rattle.nap_canon.specs.declared.text_end.TextEnd.{TextEnd}
+use Rattle.nap_canon.specs.{declared.text.Form.Form, declared.text_end.Run.Run, declared.text_end.TextEnd.TextEnd, Preludes.prelude}
 use Rattle.nap_canon.specs.declared.text_end.TextEnd.TheVariants.{NoRun, InRun}
-use Rattle.nap_canon.specs.Preludes.{prelude}
 use Rattle.nap_canon.specs.Spelling.{Piece, opcode, group, primary, control, command_piece, spelling_pieces}
 
 -- The end of the text so far: the set in GL, and the run that operands can join.

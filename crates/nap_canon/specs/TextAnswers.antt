@@ -1,11 +1,6 @@
 use Rattle.std.specs.Prelude.{IfOk, IsErrOf, List, Result, Vec, ℕ, ◌↔◌, ◌≡◌}
-use Rattle.nap_canon.specs.Names.{AllInRange, Entry, Global, IsIllegalAt, Legal}
-use Rattle.nap_canon.specs.declared.text.CanonFault.{CanonFault}
+use Rattle.nap_canon.specs.{Names.AllInRange, Names.Entry, Names.Global, Names.IsIllegalAt, Names.Legal, declared.text.CanonFault.CanonFault, declared.text.Form.Form, Laws.IsReadAs, Plain.IsPlain, Text.text_in}
 use Rattle.nap_canon.specs.declared.text.CanonFault.TheVariants.{Illegal, Memory}
-use Rattle.nap_canon.specs.declared.text.Form.{Form}
-use Rattle.nap_canon.specs.Laws.{IsReadAs}
-use Rattle.nap_canon.specs.Plain.{IsPlain}
-use Rattle.nap_canon.specs.Text.{text_in}
 
 -- the answer for a list: its text in this form, which is plain and is read as the list; or where it isn't legal; or
 -- lack of memory

@@ -1,9 +1,5 @@
 use Rattle.std.proofs.Common.{ℕ, ◌≡◌, List, [], ◌∷◌, ◌++◌, refl, ap, sym, ◌∙◌, append_assoc}
-use Rattle.nap_canon.specs.declared.text_end.TextEnd.{TextEnd}
-use Rattle.nap_canon.specs.declared.text.Form.{Form}
-use Rattle.nap_canon.specs.Names.{Entry, State, after, walk}
-use Rattle.nap_canon.specs.Spelling.{Piece}
-use Rattle.nap_canon.specs.Text.{piece_bytes, text_end_after_piece, pieces_bytes, text_end_after, entry_pieces, pieces}
+use Rattle.nap_canon.specs.{declared.text_end.TextEnd.TextEnd, declared.text.Form.Form, Names.Entry, Names.State, Names.after, Names.walk, Spelling.Piece, Text.piece_bytes, Text.text_end_after_piece, Text.pieces_bytes, Text.text_end_after, Text.entry_pieces, Text.pieces}
 
 -- pieces after others
 

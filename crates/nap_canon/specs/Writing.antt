@@ -1,14 +1,7 @@
 use Rattle.std.specs.Prelude.{Bool, Err, List, None, Ok, OnErr, OnOk, Option, Result, Some, [], false, is_err, length, map, take, true, ℕ, ◌++◌, ◌<◌, ◌∷◌, ◌≡◌, ◌≤◌}
 use Rattle.nap_canon.specs.Names.{Drawing, EachIsCurrent, Entry, Pen, State, after, attributes, walk, with_attributes, with_pen}
-use Rattle.nap_canon.specs.Commands.{Command}
-use Rattle.nap_canon.specs.declared.text.Form.{Form}
-use Rattle.nap_canon.specs.declared.pending.Pending.{Pending}
-use Rattle.nap_canon.specs.declared.pending.spelling.Path.{Path}
-use Rattle.nap_canon.specs.declared.text_end.TextEnd.{TextEnd}
-use Rattle.nap_canon.specs.declared.writer.Writer.{Writer}
-use Rattle.nap_canon.specs.Batches.{CutAfter, Parted, SentWhole}
+use Rattle.nap_canon.specs.{Commands.Command, declared.text.Form.Form, declared.pending.Pending.Pending, declared.pending.spelling.Path.Path, declared.text_end.TextEnd.TextEnd, declared.writer.Writer.Writer, Batches.CutAfter, Batches.Parted, Batches.SentWhole, Text.piece_bytes, Text.text_end_after_piece, Text.pieces_bytes, Text.text_end_after, Text.entry_pieces, Text.pieces}
 use Rattle.nap_canon.specs.Spelling.{Piece, command_piece, opcode, shape_bytes, spelling_pieces}
-use Rattle.nap_canon.specs.Text.{piece_bytes, text_end_after_piece, pieces_bytes, text_end_after, entry_pieces, pieces}
 
 -- The pending text after appending.
 

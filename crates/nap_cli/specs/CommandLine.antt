@@ -1,19 +1,11 @@
 use Rattle.std.specs.Prelude.{◌≡◌, ◌⊎◌, ◌≤◌, ℕ, Bool, true, false, List, [], ◌∷◌, Some, codes, decimal, pos}
 use Rattle.std.specs.Str.Parse.{IsNumeral, digits_value, without_leading_plus}
 use Rattle.clap.specs.Words.{App, IsAmong, Row, Rule, Text, fault_of, new_app, new_rule, one_of, subcommand_of, with_rule, with_subcommand}
-use Rattle.clap.specs.declared.error.kind.ErrorKind.{ErrorKind}
-use Rattle.clap.specs.declared.builder.ArgAction.TheVariants.{SetTrue}
-use Rattle.clap.specs.declared.builder.value_parser.ValueParser.TheVariants.{Signed}
+use Rattle.clap.specs.{declared.error.kind.ErrorKind.ErrorKind, declared.builder.ArgAction.TheVariants.SetTrue, declared.builder.value_parser.ValueParser.TheVariants.Signed}
 use Rattle.nap_reader.specs.Budgets.{most_budget, usual_budget}
-use Rattle.nap_command.specs.declared.command.Action.{Action}
-use Rattle.nap_command.specs.declared.command.Command.{Command}
-use Rattle.nap_command.specs.Devices.{Devices}
+use Rattle.nap_command.specs.{declared.command.Action.Action, declared.command.Command.Command, Devices.Devices, Commands.Ran, Making.Made, Sessions.Served}
 use Rattle.nap_list.specs.declared.device.Inlet as inlet
-use Rattle.nap_command.specs.Commands.{Ran}
-use Rattle.nap_command.specs.Making.{Made}
-use Rattle.nap_command.specs.Sessions.{Served}
-use Rattle.nap_cli.specs.declared.words.Job.{Job}
-use Rattle.nap_cli.specs.Explaining.{Explains, Unread, outputs_of}
+use Rattle.nap_cli.specs.{declared.words.Job.Job, Explaining.Explains, Explaining.Unread, Explaining.outputs_of}
 
 -- The command line as clap parses it.
 

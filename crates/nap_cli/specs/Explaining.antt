@@ -1,14 +1,9 @@
 use Rattle.std.specs.Prelude.{Bool, Err, List, Ok, Option, Result, [], false, flat_map, if◌then◌else◌, map, nat_le, true, ℕ, ◌%◌, ◌&&◌, ◌/◌, ◌==◌, ◌||◌, ◌∷◌, ◌≡◌, ◌⊎◌}
-use Rattle.std.specs.Char.{digit_char}
-use Rattle.std.specs.List.{list_all}
-use Rattle.std.specs.Io.KnownBytes.{Appends}
+use Rattle.std.specs.{Char.digit_char, List.list_all, Io.KnownBytes.Appends}
 use Rattle.clap.specs.declared.error.kind.ErrorKind.{ErrorKind}
 use Rattle.nap_list.specs.declared.device.Outlet as outlet
 use Rattle.nap_list.specs.Flushing.{flush_count}
-use Rattle.nap_command.specs.declared.answer.Verdict.{Verdict}
-use Rattle.nap_command.specs.declared.failure.Failure.{Failure}
-use Rattle.nap_command.specs.Devices.{Devices, TakesText}
-use Rattle.nap_command.specs.Commands.{Reports}
+use Rattle.nap_command.specs.{declared.answer.Verdict.Verdict, declared.failure.Failure.Failure, Devices.Devices, Devices.TakesText, Commands.Reports}
 
 -- a printable character of ASCII, from the space to `~`
 abbrev pub is_printable : ℕ → Bool

@@ -1,9 +1,7 @@
 use Rattle.std.specs.Prelude.{ℕ, ◌≡◌, Bool, true, false, List, [], length, take, Option, Some, Err}
 use Rattle.std.specs.Io.KnownBytes.{Appends, append_known}
 use Rattle.nap_list.specs.declared.device.Inlet as inlet
-use Rattle.nap_command.specs.declared.failure.Failure.{Failure}
-use Rattle.nap_command.specs.Commands.{Reports}
-use Rattle.nap_command.specs.Devices.{Devices}
+use Rattle.nap_command.specs.{declared.failure.Failure.Failure, Commands.Reports, Devices.Devices}
 use Rattle.nap_cli.specs.CommandLine.{AnswersWords}
 
 -- Standard error took e of what is reported, and the program ends with this status: that the output failed, with the

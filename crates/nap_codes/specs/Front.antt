@@ -3,11 +3,9 @@ use Rattle.std.specs.Option.{option_map}
 use Rattle.nap_codes.specs.Types.{Argument, Code, CodeFault, CodeSet, CodeSets, Left, Opcode, Row}
 use Rattle.nap_codes.specs.declared.code.Code.TheVariants.{Step, Shifted, Designated, Char, Call, Op, Operand, DefMacro, DefGlyph, DefMask, Repeat}
 use Rattle.nap_codes.specs.declared.code.CodeFault.TheVariants.{EighthBit, BadEscape, ShiftAlone, ShiftedCode, BadArgument, LeftOut}
-use Rattle.nap_codes.specs.declared.code_set.CharSet.{CharSet}
+use Rattle.nap_codes.specs.{declared.code_set.CharSet.CharSet, declared.control.TextStep.TheVariants.Aps, CodeSets.set_at, CodeSets.with_set, CodeSets.after_control0}
 use Rattle.nap_codes.specs.declared.code_set.GSet.TheVariants.{G2, G3}
 use Rattle.nap_codes.specs.declared.control.Row.TheVariants.{Whole, More, Out}
-use Rattle.nap_codes.specs.declared.control.TextStep.TheVariants.{Aps}
-use Rattle.nap_codes.specs.CodeSets.{set_at, with_set, after_control0}
 use Rattle.nap_codes.specs.Tables.{row_of, designation, control0_rows, control1_rows, mask_rows, opcode_rows, left_out_opcode}
 
 -- The front of a list of bytes: unfinished; or a code, with the number of its bytes and the code sets after it; or a

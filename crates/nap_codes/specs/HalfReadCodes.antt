@@ -1,8 +1,7 @@
 use Rattle.std.specs.Prelude.{ℕ, ◌==◌, if◌then◌else◌, ◌≡◌, ◌≤◌, List, [], ◌∷◌, ◌++◌}
-use Rattle.nap_codes.specs.Types.{Argument, ByteOutcome, CodeSets, HalfRead}
+use Rattle.nap_codes.specs.{Types.Argument, Types.ByteOutcome, Types.CodeSets, Types.HalfRead, Laws.IsGraphic}
 use Rattle.nap_codes.specs.declared.lexer.HalfRead.TheVariants.{Nothing, Escape, Control, Designation, SpacedDesignation, SingleShift2, SingleShift3, Position, PositionRow}
 use Rattle.nap_codes.specs.Front.{Front, unfinished, complete, refused, front, escape_front, argument_front, designation_front, final_front, single_shift_front, position_front, column_front}
-use Rattle.nap_codes.specs.Laws.{IsGraphic}
 
 -- the control of the C1 set that takes this argument
 abbrev pub control_of : Argument → ℕ

@@ -1,7 +1,5 @@
 use Rattle.std.specs.Prelude.{ℕ, suc, ◌≡◌, ◌<◌, ◌≤◌, List, [], ◌∷◌, ◌++◌, length, take, Some, None}
-use Rattle.nap_codes.specs.Types.{Code, CodeFault, CodeSets, Opcode, TextStep}
-use Rattle.nap_codes.specs.Tables.{left_out_opcode, format_effector}
-use Rattle.nap_codes.specs.Front.{unfinished, complete, refused, front}
+use Rattle.nap_codes.specs.{Types.Code, Types.CodeFault, Types.CodeSets, Types.Opcode, Types.TextStep, Tables.left_out_opcode, Tables.format_effector, Front.unfinished, Front.complete, Front.refused, Front.front}
 
 -- A front that is a code is unchanged by further bytes.
 abbrev pub CodeStays : Type 0

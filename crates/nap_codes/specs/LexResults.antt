@@ -1,8 +1,5 @@
 use Rattle.std.specs.Prelude.{ℕ, zero, suc, ◌≡◌, List, [], ◌∷◌, length, take, drop, Option, Some, None}
-use Rattle.nap_codes.specs.Types.{Code, CodeFault, CodeSets}
-use Rattle.nap_codes.specs.declared.code.Step.{Step}
-use Rattle.nap_codes.specs.Front.{Front, unfinished, complete, refused, front}
-use Rattle.nap_codes.specs.Lexer.{LexerState, Steps}
+use Rattle.nap_codes.specs.{Types.Code, Types.CodeFault, Types.CodeSets, declared.code.Step.Step, Front.Front, Front.unfinished, Front.complete, Front.refused, Front.front, Lexer.LexerState, Lexer.Steps}
 
 -- The codes of a list of bytes, the fault after them if there is one, and the state of the lexer at the end: the code
 -- sets, and the bytes of an incomplete code.

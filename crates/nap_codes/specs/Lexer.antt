@@ -1,12 +1,6 @@
 use Rattle.std.specs.Prelude.{ℕ, ◌≡◌, ◌⊎◌, List, [], ◌∷◌, ◌++◌, length, Some, None}
-use Rattle.nap_codes.specs.declared.code.Code.{Code}
-use Rattle.nap_codes.specs.Types.{CharSet, CodeSets, Opcode, Step, TextStep}
+use Rattle.nap_codes.specs.{declared.code.Code.Code, Types.CharSet, Types.CodeSets, Types.Opcode, Types.Step, Types.TextStep, declared.control.Row.TheVariants.Whole, CodeSets.set_at, Tables.row_of, Tables.control0_rows, Tables.opcode_rows, Tables.left_out_opcode, Front.Front, Front.unfinished, Front.complete, Front.refused, Front.front, Laws.IsGraphic}
 use Rattle.nap_codes.specs.declared.code_set.CodeSet.TheVariants.{Macros, Pdi}
-use Rattle.nap_codes.specs.declared.control.Row.TheVariants.{Whole}
-use Rattle.nap_codes.specs.CodeSets.{set_at}
-use Rattle.nap_codes.specs.Tables.{row_of, control0_rows, opcode_rows, left_out_opcode}
-use Rattle.nap_codes.specs.Front.{Front, unfinished, complete, refused, front}
-use Rattle.nap_codes.specs.Laws.{IsGraphic}
 
 -- the state of a lexer: its code sets, and the bytes of an incomplete code
 pub record LexerState : Type 0 where

@@ -1,7 +1,5 @@
 use Rattle.std.specs.Prelude.{ℕ, ◌≡◌, List, [], ◌∷◌}
-use Rattle.nap_codes.specs.Types.{Code, CodeSets, NextCode}
-use Rattle.nap_codes.specs.Front.{Front, complete, front}
-use Rattle.nap_codes.specs.Lexer.{LexerState}
+use Rattle.nap_codes.specs.{Types.Code, Types.CodeSets, Types.NextCode, Front.Front, Front.complete, Front.front, Lexer.LexerState}
 
 -- a code of so many bytes that is neither an opcode nor an operand, by what a reader does with it
 abbrev pub next_of_code : Code → ℕ → NextCode

@@ -1,13 +1,9 @@
 use Rattle.std.specs.Prelude.{ℕ, ◌-◌, ◌==◌, ◌≡◌, ◌≢◌, ◌<◌, ◌≤◌, nat_le, ◌||◌, true, false, if◌then◌else◌, List, [], ◌∷◌, ◌++◌, Option, Some, None}
 use Rattle.nap_codes.specs.Types.{Code, CodeFault, CodeSet, CodeSets, Left, Mask, Opcode, Row}
 use Rattle.nap_codes.specs.declared.code.CodeFault.TheVariants.{EighthBit, BadEscape, ShiftAlone, ShiftedCode, BadArgument, LeftOut}
-use Rattle.nap_codes.specs.declared.code_set.CodeSet.TheVariants.{Pdi}
+use Rattle.nap_codes.specs.{declared.code_set.CodeSet.TheVariants.Pdi, declared.control.TextStep.TheVariants.Aps, CodeSets.set_at, CodeSets.with_set, Front.non_pdi_code, Laws.IsGraphic}
 use Rattle.nap_codes.specs.declared.code_set.GSet.TheVariants.{G0, G1, G2, G3}
 use Rattle.nap_codes.specs.declared.control.Row.TheVariants.{Whole, Out}
-use Rattle.nap_codes.specs.declared.control.TextStep.TheVariants.{Aps}
-use Rattle.nap_codes.specs.CodeSets.{set_at, with_set}
-use Rattle.nap_codes.specs.Front.{non_pdi_code}
-use Rattle.nap_codes.specs.Laws.{IsGraphic}
 use Rattle.nap_codes.specs.Tables.{row_of, number_rows, set_rows, control0_rows, control1_rows, mask_rows, opcode_rows, left_out_opcode}
 
 -- Under these code sets, the bytes spell this code, and these are the code sets after it.

@@ -1,9 +1,7 @@
 use Rattle.std.specs.Prelude.{ℕ, Bool, ◌==◌, if◌then◌else◌, List, [], ◌∷◌, Option, Some, None, true, false}
-use Rattle.nap_codes.specs.declared.code.Code.{Code}
+use Rattle.nap_codes.specs.{declared.code.Code.Code, declared.control.CursorKind.CursorKind, declared.control.Size.Size}
 use Rattle.nap_codes.specs.Types.{CodeSet, Left, Mask, Opcode, Row, TextStep}
-use Rattle.nap_codes.specs.declared.control.CursorKind.{CursorKind}
 use Rattle.nap_codes.specs.declared.control.Row.TheVariants.{Whole, More, Out}
-use Rattle.nap_codes.specs.declared.control.Size.{Size}
 
 -- the row of a table for a byte, or none
 unfoldable pub row_of : {Entry : Type 0} → List (ℕ × Entry) → ℕ → Option Entry

@@ -2,9 +2,7 @@ use Rattle.std.specs.Prelude.{Err, List, Ok, Result, Some, [], decimal, drop, fa
 use Rattle.nap_command.specs.Types.{Action, BreaksWithin, Command, Entry, Failure, Fault, IsAccepted, IsMadeOf, LacksWithin, MakeFault, Question, Refusal, begun, lines, list_of, means, refusal, text}
 use Rattle.nap_lines.specs.Lines.{line}
 use Rattle.nap_make.specs.Texts.{DeniesLines}
-use Rattle.nap_command.specs.Commands.{Denies, count_line}
-use Rattle.nap_command.specs.Failures.{failure_text, refusal_text}
-use Rattle.nap_command.specs.Making.{failure_of}
+use Rattle.nap_command.specs.{Commands.Denies, Commands.count_line, Failures.failure_text, Failures.refusal_text, Making.failure_of}
 
 -- The line of an answer.
 

@@ -1,6 +1,5 @@
 use Rattle.std.specs.Prelude.{Err, List, Result, length, max, ℕ, ◌*◌, ◌++◌, ◌+◌, ◌<◌, ◌≡◌, ◌≤◌}
-use Rattle.nap_command.specs.Types.{Question, Stop, read_limit}
-use Rattle.nap_command.specs.Requests.{IsRequest}
+use Rattle.nap_command.specs.{Types.Question, Types.Stop, Types.read_limit, Requests.IsRequest}
 
 -- How much memory is kept for what is read.
 

@@ -2,11 +2,9 @@ use Rattle.hex.specs.Hex.{decode_of, encode_lower}
 use Rattle.std.specs.Prelude.{Bool, Err, IsErr, List, Ok, Result, Some, [], codes, decimal, false, filter, length, not, take, true, ℕ, ◌++◌, ◌+◌, ◌==◌, ◌^◌, ◌||◌, ◌∷◌, ◌≡◌, ◌≢◌, ◌≤◌, ◌⊎◌}
 use Rattle.nap_command.specs.Types.{Action, Appends, BreaksWithin, Command, Consumes, CountSink, Failure, Fault, IsAccepted, IsCanonicalOf, IsCutOff, IsReadWhole, LacksWithin, NoneFailed, Reading, Refusal, Verdict, flush_count, lines, list_of, means, reads_limit}
 use Rattle.nap_reader.specs.declared.twice.TwiceFault.{TwiceFault}
-use Rattle.nap_canon.specs.declared.conversion.ConvertFault.{ConvertFault}
-use Rattle.nap_canon.specs.Converting.{Converts, StopsAtOnce, count_of}
+use Rattle.nap_canon.specs.{declared.conversion.ConvertFault.ConvertFault, Converting.Converts, Converting.StopsAtOnce, Converting.count_of}
 use Rattle.nap_list.specs.declared.device.Inlet as inlet
-use Rattle.nap_command.specs.Failures.{exit_status, refusal_text, reported_text}
-use Rattle.nap_command.specs.Devices.{Devices, reading_between}
+use Rattle.nap_command.specs.{Failures.exit_status, Failures.refusal_text, Failures.reported_text, Devices.Devices, Devices.reading_between}
 
 -- The stream that a command reads.
 

@@ -1,8 +1,7 @@
 use Rattle.std.specs.Prelude.{All, List, [], drop, length, take, ℕ, ◌*◌, ◌++◌, ◌+◌, ◌<◌, ◌∷◌, ◌≡◌, ◌≢◌, ◌≤◌, ◌⊎◌}
 use Rattle.nap_command.specs.Types.{Action, Entry, Failure, Fault, Question, Refusal, Verdict, begun, means, text}
-use Rattle.nap_command.specs.Commands.{PrintsBy}
+use Rattle.nap_command.specs.{Commands.PrintsBy, Requests.IsBegun, Requests.IsRequest, Requests.StartsNone}
 use Rattle.nap_command.specs.Answers.{DeniesPage, IsAnswer, line_at, page_command, places, question_of, refused_line}
-use Rattle.nap_command.specs.Requests.{IsBegun, IsRequest, StartsNone}
 
 -- Bytes begin with at most one complete request.
 abbrev pub RequestsAreCutOneWay : Type 0

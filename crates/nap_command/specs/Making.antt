@@ -1,9 +1,7 @@
 use Rattle.std.specs.Prelude.{Bool, Err, List, Ok, Result, false, length, true, ℕ, ◌+◌, ◌≡◌, ◌≤◌}
 use Rattle.nap_command.specs.Types.{Appends, Consumes, Failure, IsCutOff, IsMadeOf, IsReadWhole, MakeFault, NoneFailed, Reading, Verdict, flush_count, reads_limit}
-use Rattle.nap_make.specs.declared.page.PageFault.{PageFault}
-use Rattle.nap_make.specs.Pages.{MakesPage, RefusesLinesBy, ReadsNoMore}
-use Rattle.nap_command.specs.Commands.{EndsPrinting, Reports}
-use Rattle.nap_command.specs.Devices.{Devices, reading_between}
+use Rattle.nap_make.specs.{declared.page.PageFault.PageFault, Pages.MakesPage, Pages.RefusesLinesBy, Pages.ReadsNoMore}
+use Rattle.nap_command.specs.{Commands.EndsPrinting, Commands.Reports, Devices.Devices, Devices.reading_between}
 
 -- `make` prints the page that lines make.
 

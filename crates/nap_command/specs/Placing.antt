@@ -1,7 +1,5 @@
 use Rattle.std.specs.Prelude.{List, [], length, ℕ, ◌++◌, ◌+◌, ◌∷◌, ◌≡◌}
-use Rattle.nap_command.specs.Types.{Ahead, Entry, lines}
-use Rattle.nap_command.specs.declared.batch.written.Written.{Written}
-use Rattle.nap_command.specs.Answers.{line_at}
+use Rattle.nap_command.specs.{Types.Ahead, Types.Entry, Types.lines, declared.batch.written.Written.Written, Answers.line_at}
 use Rattle.nap_list.specs.Range.{AllInRange}
 
 -- How places are written. No one sees this.

@@ -1,11 +1,8 @@
 use Rattle.std.specs.Str.Parse.{IsNumeral, digits_value}
 use Rattle.nap_reader.specs.Budgets.{most_budget}
-use Rattle.nap_make.specs.Cutting.{SplitsAtByte}
-use Rattle.nap_make.specs.Numbers.{digits_limit}
-use Rattle.nap_command.specs.declared.batch.request.RequestFront.{RequestFront}
+use Rattle.nap_make.specs.{Cutting.SplitsAtByte, Numbers.digits_limit}
+use Rattle.nap_command.specs.{declared.batch.request.RequestFront.RequestFront, Types.Question, Types.RequestLine, Limits.request_line_limit, Limits.page_limit}
 use Rattle.std.specs.Prelude.{All, List, codes, length, ℕ, ◌++◌, ◌+◌, ◌<◌, ◌∷◌, ◌≡◌, ◌≢◌, ◌≤◌, ◌⊎◌}
-use Rattle.nap_command.specs.Types.{Question, RequestLine}
-use Rattle.nap_command.specs.Limits.{request_line_limit, page_limit}
 
 -- at most eight decimal digits write this number, which is at most `most`
 pub record IsNumber (most : ℕ) (digits : List ℕ) (n : ℕ) : Type 0 where

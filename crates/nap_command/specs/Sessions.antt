@@ -1,15 +1,8 @@
 use Rattle.nap_list.specs.declared.device.Outlet as outlet
 use Rattle.nap_list.specs.Flushing as flushing
-use Rattle.nap_command.specs.Commands.{Reported}
-use Rattle.nap_command.specs.Devices.{Devices, Pipes, reading_between}
-use Rattle.nap_command.specs.Failures.{failure_text}
+use Rattle.nap_command.specs.{Commands.Reported, Devices.Devices, Devices.Pipes, Devices.reading_between, Failures.failure_text, Answers.IsAnswer, Answers.answer_text, Buffering.Buffered, Limits.requests_limit, Requests.IsRequest, Waiting.ReadingEnds}
 use Rattle.std.specs.Prelude.{All, Bool, Err, List, Ok, Result, [], codes, false, flat_map, length, max, min, take, true, ℕ, ◌++◌, ◌+◌, ◌-◌, ◌^◌, ◌∷◌, ◌≡◌, ◌≢◌, ◌≤◌, ◌⊎◌}
 use Rattle.nap_command.specs.Types.{Appends, Consumes, Ended, Failure, Question, read_limit}
-use Rattle.nap_command.specs.Answers.{IsAnswer, answer_text}
-use Rattle.nap_command.specs.Buffering.{Buffered}
-use Rattle.nap_command.specs.Limits.{requests_limit}
-use Rattle.nap_command.specs.Requests.{IsRequest}
-use Rattle.nap_command.specs.Waiting.{ReadingEnds}
 
 -- a question, with its bytes, and its answer
 pub record Exchange : Type 0 where

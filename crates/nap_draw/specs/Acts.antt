@@ -1,9 +1,5 @@
 use Rattle.std.specs.Prelude.{Bool, Err, IfOk, List, Ok, Result, [], ◌≡◌, ◌≢◌}
-use Rattle.nap_draw.specs.Names.{AllFit, Entry, Ghosts, StatesAgree, StopsAmid}
-use Rattle.nap_draw.specs.declared.fault.DrawFault.{DrawFault}
-use Rattle.nap_draw.specs.declared.work.Work.{Work}
-use Rattle.nap_draw.specs.Rule.{RuleResult}
-use Rattle.nap_draw.specs.Draws.{DrawsBy, draw_cause}
+use Rattle.nap_draw.specs.{Names.AllFit, Names.Entry, Names.Ghosts, Names.StatesAgree, Names.StopsAmid, declared.fault.DrawFault.DrawFault, declared.work.Work.Work, Rule.RuleResult, Draws.DrawsBy, Draws.draw_cause}
 
 -- a code acted on the work w and the sink s by the result of its rule, and left v and t with this answer, which says
 -- whether all macros are cleared: the sink took all entries, each fits, and the states agree again; or the work is

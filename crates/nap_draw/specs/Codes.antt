@@ -1,8 +1,6 @@
 use Rattle.std.specs.Prelude.{Err, List, None, Ok, Option, Result, Some, [], false, suc, zero, ℕ, ⊤, ◌++◌, ◌∷◌}
 use Rattle.nap_draw.specs.Names.{CharSet, CharSize, Code, Drawing, Entry, IsCode, LastChar, OpenDefinition, State, StepMade, TextLook, TextStep, after, format_effector, hand_of, text_entry, walk}
-use Rattle.nap_draw.specs.declared.work.Work.{Work}
-use Rattle.nap_draw.specs.declared.fault.DrawFault.{DrawFault}
-use Rattle.nap_draw.specs.Rule.{RuleResult, rule_result, with_drawing}
+use Rattle.nap_draw.specs.{declared.work.Work.Work, declared.fault.DrawFault.DrawFault, Rule.RuleResult, Rule.rule_result, Rule.with_drawing}
 
 -- The rules of characters and controls (PROFILE.md, Characters and controls).
 

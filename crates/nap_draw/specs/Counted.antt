@@ -1,10 +1,6 @@
 use Rattle.std.specs.Prelude.{List, None, Ok, Option, Result, Some, length, true, ℕ, ◌≡◌}
 use Rattle.nap_draw.specs.Names.{Coordinates, Course, Ghosts, displaced_point, multi_of, operand_words}
-use Rattle.nap_draw.specs.declared.fault.DrawFault.{DrawFault}
-use Rattle.nap_draw.specs.declared.work.Work.{Work}
-use Rattle.nap_draw.specs.Geometry.{last_or}
-use Rattle.nap_draw.specs.Rule.{RuleResult}
-use Rattle.nap_draw.specs.Execution.{ActsByRule, clears_nothing}
+use Rattle.nap_draw.specs.{declared.fault.DrawFault.DrawFault, declared.work.Work.Work, Geometry.last_or, Rule.RuleResult, Execution.ActsByRule, Execution.clears_nothing}
 
 -- Points that are only counted.
 

@@ -1,9 +1,5 @@
 use Rattle.std.specs.Prelude.{Bool, Err, List, Ok, Result, false, true, ◌≡◌, ◌⊎◌}
-use Rattle.nap_draw.specs.Names.{BreaksAmid, Entry, SinkFault, StopsAmid}
-use Rattle.nap_draw.specs.declared.work.Effects.{Effects}
-use Rattle.nap_draw.specs.declared.work.Work.{Work}
-use Rattle.nap_draw.specs.declared.fault.DrawFault.{DrawFault}
-use Rattle.nap_draw.specs.Rule.{RuleResult}
+use Rattle.nap_draw.specs.{Names.BreaksAmid, Names.Entry, Names.SinkFault, Names.StopsAmid, declared.work.Effects.Effects, declared.work.Work.Work, declared.fault.DrawFault.DrawFault, Rule.RuleResult}
 
 -- the fault of a code whose entry a sink didn't take
 abbrev pub fault_of : SinkFault → DrawFault

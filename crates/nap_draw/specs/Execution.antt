@@ -1,16 +1,9 @@
 use Rattle.std.specs.Prelude.{Bool, Err, IsErrOf, List, None, Ok, Option, Result, Some, [], false, min, option_map, true, vec_capacity, vec_len, ℕ, ◌++◌, ◌+◌, ◌<◌, ◌∷◌, ◌≡◌, ◌≤◌, ◌⊎◌}
 use Rattle.nap_draw.specs.Names.{Coordinates, Definition, Displacement, Drawing, Entry, EqualCurrent, Ghosts, Ink, MayCome, Pen, ShapeKind, SinkFault, State, Vec, WellMade, attributes, corner, ink_of, outline, point_entry, shape_on, sink_model_of, walk, with_pen}
 use Rattle.nap_list.specs.Putting as puts
-use Rattle.nap_draw.specs.declared.fault.DrawFault.{DrawFault}
-use Rattle.nap_draw.specs.declared.figures.Span.{Span}
-use Rattle.nap_draw.specs.declared.figures.Figure.{Figure}
-use Rattle.nap_draw.specs.declared.figures.ShapeStart.{ShapeStart}
-use Rattle.nap_draw.specs.declared.points.Trail.{Trail}
-use Rattle.nap_draw.specs.declared.work.Work.{Work}
+use Rattle.nap_draw.specs.{declared.fault.DrawFault.DrawFault, declared.figures.Span.Span, declared.figures.Figure.Figure, declared.figures.ShapeStart.ShapeStart, declared.points.Trail.Trail, declared.work.Work.Work, Geometry.polyline_spans, Geometry.arc_points, Geometry.poly_points, Acts.WantsBy, Acts.WantsFor, Acts.GivesSome}
 use Rattle.nap_draw.specs.Rule.{RuleResult, entries_result, entry_result, rule_result, shape_from_pen, shape_from_point, span_line_entry}
-use Rattle.nap_draw.specs.Geometry.{polyline_spans, arc_points, poly_points}
 use Rattle.nap_draw.specs.Draws.{Cause, stream, memory, device, DrawsBy, draw_cause}
-use Rattle.nap_draw.specs.Acts.{WantsBy, WantsFor, GivesSome}
 
 -- The steps in which a code is executed: its run is decoded into the scratch list, its entries are put, and the work is
 -- changed.

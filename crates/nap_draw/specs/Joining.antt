@@ -1,7 +1,5 @@
 use Rattle.std.specs.Prelude.{List, Ok, false, length, ℕ, ⊤, ◌*◌, ◌++◌, ◌≡◌}
-use Rattle.nap_draw.specs.Names.{Opcode}
-use Rattle.nap_draw.specs.declared.work.Work.{Work}
-use Rattle.nap_draw.specs.Rule.{RuleResult, rule}
+use Rattle.nap_draw.specs.{Names.Opcode, declared.work.Work.Work, Rule.RuleResult, Rule.rule}
 
 -- the opcodes whose runs canonical text joins (PROFILE.md, Canonical text)
 abbrev pub CanJoin : Opcode → Type 0

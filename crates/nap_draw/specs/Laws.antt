@@ -1,9 +1,6 @@
 use Rattle.std.specs.Prelude.{All, List, None, Ok, [], length, ℕ, ◌++◌, ◌∷◌, ◌≡◌, ◌≤◌}
 use Rattle.nap_draw.specs.Names.{AllFit, AllInRange, CharSet, Code, IsWord, Opcode, State, StateInRange, StatesAgree, hand_of, left_out_opcode, text_entry, walk}
-use Rattle.nap_draw.specs.declared.work.Work.{Work}
-use Rattle.nap_draw.specs.Codes.{code_rule, text_code, IsMade}
-use Rattle.nap_draw.specs.Operands.{operands}
-use Rattle.nap_draw.specs.Rule.{RuleResult, IsDrawn, rule_result, rule}
+use Rattle.nap_draw.specs.{declared.work.Work.Work, Codes.code_rule, Codes.text_code, Codes.IsMade, Operands.operands, Rule.RuleResult, Rule.IsDrawn, Rule.rule_result, Rule.rule}
 
 -- if the work's state agrees with the one that the entries left, the entries of an opcode fit one after another, and
 -- the states agree again

@@ -1,9 +1,6 @@
 use Rattle.std.specs.Prelude.{Bool, Err, List, None, Ok, Option, Result, Some, [], drop, false, if◌then◌else◌, length, map, nat_lt, ok_or, option_and_then, option_map, slice_get, slice_index, take, true, unwrap_or, ℕ, ⊤, ◌%◌, ◌+◌, ◌/◌, ◌==◌, ◌∷◌}
 use Rattle.nap_draw.specs.Names.{Area, Base, CharSize, Colour, Components, Coordinates, Displacement, Drawing, Entry, Opcode, OperandLengths, Pen, State, colour_of, ink_of, is_known, option_or, point_at, point_entry, single_of, start, steps_limit, walk, with_colour, with_known_colour, with_pen_at}
-use Rattle.nap_draw.specs.declared.work.Work.{Work}
-use Rattle.nap_draw.specs.declared.fault.DrawFault.{DrawFault}
-use Rattle.nap_draw.specs.declared.figures.Span.{Span}
-use Rattle.nap_draw.specs.Operands.{operands, moves, addresses}
+use Rattle.nap_draw.specs.{declared.work.Work.Work, declared.fault.DrawFault.DrawFault, declared.figures.Span.Span, Operands.operands, Operands.moves, Operands.addresses}
 use Rattle.nap_draw.specs.Geometry.{last_or, points_at, points_reached, polyline_spans, span_by, absolute_spans, relative_spans, rect_chain_spans, arc_points, poly_points}
 
 -- the operand lengths at the start: three words and one

@@ -1,12 +1,7 @@
 use Rattle.std.specs.Prelude.{ℕ, zero, suc, List, ◌++◌, Option, Some, None, codes}
 use Rattle.nap_values.specs.Coordinates.{Coordinates, Displacement}
-use Rattle.nap_codes.specs.declared.code_set.CharSet.{CharSet}
-use Rattle.nap_codes.specs.declared.control.TextStep.{TextStep}
-use Rattle.nap_codes.specs.Tables.{format_effector}
-use Rattle.nap_list.specs.declared.attribute.Colour.{Colour}
-use Rattle.nap_list.specs.declared.attribute.Hand.{Hand}
-use Rattle.nap_list.specs.declared.attribute.Pen.{Pen}
-use Rattle.nap_list.specs.declared.attribute.Pen.TheVariants.{After}
+use Rattle.nap_codes.specs.{declared.code_set.CharSet.CharSet, declared.control.TextStep.TextStep, Tables.format_effector}
+use Rattle.nap_list.specs.{declared.attribute.Colour.Colour, declared.attribute.Hand.Hand, declared.attribute.Pen.Pen, declared.attribute.Pen.TheVariants.After}
 use Rattle.nap_lines.specs.Lines.{point_text, move_text, colour_text, look_text, set_text, step_text, code_text}
 
 -- Lines of the entries of a batch: each has a beginning of its own, and they share an end.

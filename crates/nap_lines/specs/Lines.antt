@@ -1,24 +1,8 @@
 use Rattle.std.specs.Prelude.{ℕ, ◌/◌, ◌%◌, Bool, if◌then◌else◌, List, [], ◌∷◌, ◌++◌, Option, Some, None, codes, decimal, flat_map}
-use Rattle.std.specs.Fmt.{signed_decimal}
-use Rattle.std.specs.Char.{digit_char}
-use Rattle.nap_values.specs.Coordinates.{Coordinates, Displacement}
-use Rattle.nap_values.specs.Colours.{Components}
-use Rattle.nap_codes.specs.declared.code_set.CharSet.{CharSet}
-use Rattle.nap_codes.specs.declared.control.CursorKind.{CursorKind}
-use Rattle.nap_codes.specs.declared.control.Mask.{Mask}
-use Rattle.nap_codes.specs.declared.control.Size.{Size}
-use Rattle.nap_codes.specs.declared.control.TextStep.{TextStep}
-use Rattle.nap_list.specs.declared.attribute.Area.{Area}
-use Rattle.nap_list.specs.declared.attribute.CharSize.{CharSize}
-use Rattle.nap_list.specs.declared.attribute.Colour.{Colour}
-use Rattle.nap_list.specs.declared.attribute.Hand.{Hand}
-use Rattle.nap_list.specs.declared.attribute.Ink.{Ink}
-use Rattle.nap_list.specs.declared.attribute.Origin.{Origin}
-use Rattle.nap_list.specs.declared.attribute.Pen.{Pen}
-use Rattle.nap_list.specs.declared.attribute.Preset.{Preset}
-use Rattle.nap_list.specs.declared.attribute.TextLook.{TextLook}
-use Rattle.nap_list.specs.declared.attribute.Texture.{Texture}
-use Rattle.nap_list.specs.declared.entry.Entry.{Entry}
+use Rattle.std.specs.{Fmt.signed_decimal, Char.digit_char}
+use Rattle.nap_values.specs.{Coordinates.Coordinates, Coordinates.Displacement, Colours.Components}
+use Rattle.nap_codes.specs.{declared.code_set.CharSet.CharSet, declared.control.CursorKind.CursorKind, declared.control.Mask.Mask, declared.control.Size.Size, declared.control.TextStep.TextStep}
+use Rattle.nap_list.specs.{declared.attribute.Area.Area, declared.attribute.CharSize.CharSize, declared.attribute.Colour.Colour, declared.attribute.Hand.Hand, declared.attribute.Ink.Ink, declared.attribute.Origin.Origin, declared.attribute.Pen.Pen, declared.attribute.Preset.Preset, declared.attribute.TextLook.TextLook, declared.attribute.Texture.Texture, declared.entry.Entry.Entry}
 
 -- The fields of a line (PROFILE.md, Lines of list).
 

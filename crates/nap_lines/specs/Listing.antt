@@ -1,7 +1,5 @@
 use Rattle.std.proofs.Common.{ℕ, ◌≡◌, List, [], ◌∷◌, ◌++◌, flat_map, refl, ap, sym, ◌∙◌, append-nil, append_assoc}
-use Rattle.nap_list.specs.declared.entry.Entry.{Entry}
-use Rattle.nap_list.specs.declared.state.State.{State}
-use Rattle.nap_list.specs.State.{walk}
+use Rattle.nap_list.specs.{declared.entry.Entry.Entry, declared.state.State.State, State.walk}
 use Rattle.nap_list.proofs.PublicLaws.{walks_join}
 use Rattle.nap_lines.specs.Lines.{line}
 

@@ -1,7 +1,6 @@
 use Rattle.std.specs.Prelude.{ℕ, List, [], ◌∷◌, ◌++◌, codes}
 use Rattle.nap_values.specs.Coordinates.{Coordinates}
-use Rattle.nap_list.specs.declared.entry.Entry.{Entry}
-use Rattle.nap_list.specs.declared.shape.ShapeKind.{ShapeKind}
+use Rattle.nap_list.specs.{declared.entry.Entry.Entry, declared.shape.ShapeKind.ShapeKind}
 use Rattle.nap_lines.specs.Lines.{fill_text, points_text, ink_text, line}
 
 -- A line in two parts, and a shape's line in more.

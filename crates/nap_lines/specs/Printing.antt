@@ -1,12 +1,6 @@
 use Rattle.std.specs.Prelude.{ℕ, ◌≡◌, ◌<◌, true, false, List, [], ◌∷◌, ◌++◌, length, take, Result, Ok, Err}
-use Rattle.nap_list.specs.declared.device.DeviceFault.{DeviceFault}
+use Rattle.nap_list.specs.{declared.device.DeviceFault.DeviceFault, declared.entry.Entry.Entry, declared.sink.BatchFault.BatchFault, declared.sink.SinkFault.SinkFault, declared.state.State.State, Sending.Sending, Sending.sending, Sending.Grows, State.walk}
 use Rattle.nap_list.specs.declared.device.Outlet as outlet
-use Rattle.nap_list.specs.declared.entry.Entry.{Entry}
-use Rattle.nap_list.specs.declared.sink.BatchFault.{BatchFault}
-use Rattle.nap_list.specs.declared.sink.SinkFault.{SinkFault}
-use Rattle.nap_list.specs.declared.state.State.{State}
-use Rattle.nap_list.specs.Sending.{Sending, sending, Grows}
-use Rattle.nap_list.specs.State.{walk}
 use Rattle.nap_lines.specs.Listing.{lines}
 
 -- Lines that are printed as entries are taken.

@@ -1,9 +1,6 @@
 use Rattle.std.proofs.Common.{ℕ, ◌≡◌, ◌<◌, List, [], ◌∷◌, ◌++◌, refl, ap, sym, subst, ◌∙◌, append-nil, append_assoc}
 use Rattle.nap_list.specs.declared.device.Outlet as outlet
-use Rattle.nap_list.specs.declared.entry.Entry.{Entry}
-use Rattle.nap_list.specs.declared.state.State.{State}
-use Rattle.nap_list.specs.Sending.{Sending, grows_none, grows_more}
-use Rattle.nap_list.specs.State.{walk}
+use Rattle.nap_list.specs.{declared.entry.Entry.Entry, declared.state.State.State, Sending.Sending, Sending.grows_none, Sending.grows_more, State.walk}
 use Rattle.nap_list.proofs.PublicLaws.{walks_join}
 use Rattle.nap_lines.specs.Listing.{lines, lines_join}
 use Rattle.nap_lines.specs.Printing.{SendsPart, Printing, sending_by, TookLines, BrokeLines, line_memory}

@@ -1,6 +1,5 @@
 use Rattle.std.specs.Prelude.{ℕ, ◌≡◌, ◌<◌, ◌≤◌, ◌+◌, ◌*◌, ◌++◌, List, Result, Ok, Err, length, take, vec_len, vec_capacity}
-use Rattle.std.specs.declared.vec.Vec.{Vec}
-use Rattle.std.specs.Str.{IsUtf8}
+use Rattle.std.specs.{declared.vec.Vec.Vec, Str.IsUtf8}
 use Rattle.nap_list.specs.declared.entry.Entry.{Entry}
 
 -- the greatest number of bytes of a line, if the entry isn't a shape

@@ -1,10 +1,7 @@
 use Rattle.std.proofs.Common.{ℕ, zero, suc, ◌≡◌, List, [], ◌∷◌, map, take, drop, length, refl, sym, ap}
 use Rattle.std.proofs.lemmas.List.{length-map}
 use Rattle.std.specs.List.{take-map}
-use Rattle.nap_list.specs.Names.{CharSet, Coordinates, drop-map}
-use Rattle.nap_list.specs.Types.{Batch, Drawing, Hand}
-use Rattle.nap_list.specs.declared.attribute.Pen.TheVariants.{After}
-use Rattle.nap_list.specs.State.{hand_of}
+use Rattle.nap_list.specs.{Names.CharSet, Names.Coordinates, Names.drop-map, Types.Batch, Types.Drawing, Types.Hand, declared.attribute.Pen.TheVariants.After, State.hand_of}
 use Rattle.nap_list.specs.Batches.{point_entry, line_entry, polyline_entries, text_entries_in, text_entry, batch_entries, last_point}
 
 -- Laws about the entries of a batch: their number and their parts.

@@ -1,9 +1,6 @@
 use Rattle.std.specs.Prelude.{List, None, Option, Some, [], map, ℕ, ⊤, ◌∷◌, ◌≡◌}
-use Rattle.nap_list.specs.Names.{CharSet, Coordinates, TextStep, format_effector}
+use Rattle.nap_list.specs.{Names.CharSet, Names.Coordinates, Names.TextStep, Names.format_effector, declared.attribute.Pen.TheVariants.After, Agreement.AreCurrent, Entry.IsCode, Entry.attributes, Entry.point_attributes, Entry.ink_attributes, Entry.hand_attributes}
 use Rattle.nap_list.specs.Types.{Batch, Drawing, Entry, Hand, LastChar, Pen, State}
-use Rattle.nap_list.specs.declared.attribute.Pen.TheVariants.{After}
-use Rattle.nap_list.specs.Agreement.{AreCurrent}
-use Rattle.nap_list.specs.Entry.{IsCode, attributes, point_attributes, ink_attributes, hand_attributes}
 use Rattle.nap_list.specs.State.{after, start, start_drawing, last_after, with_pen, ink_of, hand_of}
 
 -- The entries of a batch.

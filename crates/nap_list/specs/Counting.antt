@@ -1,9 +1,5 @@
 use Rattle.std.proofs.Common.{ℕ, ◌≡◌, ◌+◌, ◌^◌, ◌≤◌, false, List, [], ◌++◌, length, refl, sym, ap, ◌∙◌, length-append, arith}
-use Rattle.nap_list.specs.declared.count_sink.CountSink.{CountSink}
-use Rattle.nap_list.specs.Types.{Entry, State}
-use Rattle.nap_list.specs.Putting.{SinkModel, sink_model}
-use Rattle.nap_list.specs.State.{walk}
-use Rattle.nap_list.specs.Walks.{walks_join}
+use Rattle.nap_list.specs.{declared.count_sink.CountSink.CountSink, Types.Entry, Types.State, Putting.SinkModel, Putting.sink_model, State.walk, Walks.walks_join}
 
 -- a counting sink took these entries
 pub record CountsEntries (s : CountSink) (d : List Entry) (t : CountSink) : Type 0 where

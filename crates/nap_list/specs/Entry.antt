@@ -1,8 +1,7 @@
 use Rattle.std.specs.Prelude.{None, Some, length, ℕ, ⊤, ◌≤◌}
-use Rattle.nap_list.specs.Names.{Displacement, TextStep}
+use Rattle.nap_list.specs.{Names.Displacement, Names.TextStep, Limits.points_limit}
 use Rattle.nap_codes.specs.declared.control.TextStep.TheVariants.{Aps}
 use Rattle.nap_list.specs.Types.{Attributes, Colour, Entry, Hand, Ink, Pen}
-use Rattle.nap_list.specs.Limits.{points_limit}
 
 -- no attributes
 abbrev pub no_attributes : Attributes

@@ -1,6 +1,5 @@
 use Rattle.std.specs.Prelude.{Bool, List, [], filter, if◌then◌else◌, nat_eq, not, take, ℕ, ◌%◌, ◌/◌, ◌==◌, ◌∷◌}
-use Rattle.nap_list.specs.Names.{Components, eq_of_both, list_any, on}
-use Rattle.nap_list.specs.declared.known.MapColour.{MapColour}
+use Rattle.nap_list.specs.{Names.Components, Names.eq_of_both, Names.list_any, Names.on, declared.known.MapColour.MapColour}
 
 -- The known colours of the colour map, the last set first.
 

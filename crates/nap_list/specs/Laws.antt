@@ -1,10 +1,8 @@
 use Rattle.std.specs.Prelude.{List, [], ℕ, ◌++◌, ◌↔◌, ◌∷◌, ◌≡◌}
-use Rattle.nap_list.specs.Names.{CharSet}
+use Rattle.nap_list.specs.{Names.CharSet, Entry.WellMade, Agreement.ModeZeroIsBase, Agreement.StatesAgree, Agreement.EqualCurrent}
 use Rattle.nap_list.specs.Types.{Attributes, Batch, Drawing, Entry, Hand, State}
-use Rattle.nap_list.specs.Entry.{WellMade}
 use Rattle.nap_list.specs.Batches.{EachIsCurrent, IsTextByte, batch_entries, text_entries_in, text_entry}
 use Rattle.nap_list.specs.State.{start, with_attributes, after, walk, AllFit, Legal, IsIllegalAt}
-use Rattle.nap_list.specs.Agreement.{ModeZeroIsBase, StatesAgree, EqualCurrent}
 
 -- the walk of two lists joined is the walk of the second from where the first ends
 abbrev pub WalksJoin : Type 0

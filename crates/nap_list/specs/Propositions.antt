@@ -1,9 +1,7 @@
 use Rattle.std.specs.Prelude.{IfSome, None, Option, Some}
-use Rattle.nap_list.specs.Names.{Displacement}
+use Rattle.nap_list.specs.{Names.Displacement, Entry.IsCode, State.PenFits, State.MaskFits, State.TextureFits}
 use Rattle.std.proofs.Props.{props}
 use Rattle.nap_list.specs.Types.{Base, Colour, Drawing, LastChar, OpenDefinition, Pen, State, Texture}
-use Rattle.nap_list.specs.Entry.{IsCode}
-use Rattle.nap_list.specs.State.{PenFits, MaskFits, TextureFits}
 use Rattle.nap_list.specs.Agreement.{BaseAgrees, ColourAgrees, ModeZeroIsBase, Agrees, DefinitionsAgree, StatesAgree}
 
 -- Each of these facts has at most one proof, so a ghost field may hold it.

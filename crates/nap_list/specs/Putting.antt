@@ -1,7 +1,5 @@
 use Rattle.std.specs.Prelude.{ℕ, ◌≡◌, ◌<◌, ◌≤◌, ◌⊎◌, ◌++◌, Bool, true, false, List, [], ◌∷◌, length, Result, Ok, Err, IsErrOf}
-use Rattle.nap_list.specs.Types.{Entry, SinkFault, State}
-use Rattle.nap_list.specs.declared.sink.BatchFault.{BatchFault}
-use Rattle.nap_list.specs.State.{walk}
+use Rattle.nap_list.specs.{Types.Entry, Types.SinkFault, Types.State, declared.sink.BatchFault.BatchFault, State.walk}
 
 -- What a sink took of a list, entry by entry or as a batch.
 

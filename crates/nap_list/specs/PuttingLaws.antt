@@ -2,11 +2,8 @@ use Rattle.std.proofs.Common.{◌≡◌, ℕ, ◌+◌, length, ◌⊎◌, List, 
 use Rattle.std.proofs.lemmas.Bool.{false_from_ne_true, true_from_ne_false, cases_Bool}
 use Rattle.std.proofs.lemmas.List.{take-append-drop, length-take-le, take_all}
 use Rattle.std.specs.Result.{IsErrAnd}
-use Rattle.nap_list.specs.Types.{Entry, SinkFault, State}
+use Rattle.nap_list.specs.{Types.Entry, Types.SinkFault, Types.State, declared.sink.BatchFault.BatchFault, State.Fits, State.AllFit, State.after, State.walk, Walks.walks_join, Walks.fits_join}
 use Rattle.nap_list.specs.declared.sink.SinkFault.TheVariants.{Memory, Write}
-use Rattle.nap_list.specs.declared.sink.BatchFault.{BatchFault}
-use Rattle.nap_list.specs.State.{Fits, AllFit, after, walk}
-use Rattle.nap_list.specs.Walks.{walks_join, fits_join}
 use Rattle.nap_list.specs.Putting.{SinkModel, Put, PutSome, Putting, StopsAmid, BreaksAmid, StopsAfter, HaltsAfter, TakesAll, TookMore, TookBroke, WantsMore, NotTaken, UnlessAll}
 
 -- Laws about what a sink took of a list, part by part.

@@ -1,7 +1,6 @@
 use Rattle.std.specs.Prelude.{Bool, List, Option, length, true, ℕ, ◌+◌, ◌-◌, ◌<◌, ◌≡◌, ◌≤◌, ◌⊎◌}
-use Rattle.nap_list.specs.Names.{IsAtEnd}
+use Rattle.nap_list.specs.{Names.IsAtEnd, Limits.reads_limit}
 use Rattle.nap_list.specs.declared.device.Inlet as inlet
-use Rattle.nap_list.specs.Limits.{reads_limit}
 
 -- A series of reads, as contracts see it: the bytes left, whether a read had failed before and has failed now, and the
 -- number of reads.

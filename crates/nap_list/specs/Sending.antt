@@ -1,8 +1,6 @@
 use Rattle.std.proofs.Common.{ℕ, ◌≡◌, ◌+◌, ◌-◌, ◌^◌, ◌<◌, ◌≤◌, ◌||◌, Bool, true, false, Option, Result, Ok, Err, List, [], ◌++◌, length, take, drop, take-add, min, refl, ap, sym, subst, ◌∙◌, length-append, length-drop, append-nil, take_all, arith}
-use Rattle.std.proofs.Math.Bool.{or-false, or_assoc}
-use Rattle.std.proofs.lemmas.List.{length-take-le}
+use Rattle.std.proofs.{Math.Bool.or-false, Math.Bool.or_assoc, lemmas.List.length-take-le, KnownBytes.Appends-kept, KnownBytes.Appends-nil, KnownBytes.Appends-trans}
 use Rattle.std.specs.Io.KnownBytes.{Appends, Keeps}
-use Rattle.std.proofs.KnownBytes.{Appends-kept, Appends-nil, Appends-trans}
 use Rattle.nap_list.specs.declared.device.Outlet as outlet
 
 -- An outlet that is written, as contracts see it: the bytes that it took, if it tells them; whether it has failed, and

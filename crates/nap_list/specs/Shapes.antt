@@ -1,7 +1,5 @@
 use Rattle.std.specs.Prelude.{Bool, List, [], length, slice_get, unwrap_or, ◌-◌, ◌∷◌}
-use Rattle.nap_list.specs.Names.{Coordinates}
-use Rattle.nap_list.specs.Types.{Drawing, Entry, Ink, Shape, ShapeKind}
-use Rattle.nap_list.specs.State.{ink_of}
+use Rattle.nap_list.specs.{Names.Coordinates, Types.Drawing, Types.Entry, Types.Ink, Types.Shape, Types.ShapeKind, State.ink_of}
 
 -- Arcs and polygons, and the pen after them.
 

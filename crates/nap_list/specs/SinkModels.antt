@@ -1,5 +1,4 @@
-use Rattle.nap_list.specs.declared.sink.Sink.{Ghosts}
-use Rattle.nap_list.specs.Putting.{SinkModel, sink_model}
+use Rattle.nap_list.specs.{declared.sink.Sink.Ghosts, Putting.SinkModel, Putting.sink_model}
 
 -- a type that implements the trait as a model of a sink
 abbrev pub sink_model_of : {S : Type 0} → Ghosts S → SinkModel S

@@ -1,13 +1,7 @@
 use Rattle.std.specs.Prelude.{IsSome, List, None, Option, Some, [], false, if◌then◌else◌, length, pos, slice_get, unwrap_or, ℕ, ⊤, ◌%◌, ◌++◌, ◌-◌, ◌/◌, ◌==◌, ◌∷◌, ◌≡◌, ◌⊎◌}
-use Rattle.nap_list.specs.Names.{Coordinates, Displacement}
+use Rattle.nap_list.specs.{Names.Coordinates, Names.Displacement, declared.attribute.Origin.Origin, declared.attribute.Preset.Preset, declared.attribute.CharSize.CharSize, declared.state.Definition.Definition, Entry.attributes, Entry.WellMade, Known.colour_code, Known.is_known, Known.with_known_colour, Known.known_after_reset}
 use Rattle.nap_codes.specs.declared.control.Size.TheVariants.{Normal}
-use Rattle.nap_list.specs.declared.attribute.Origin.{Origin}
-use Rattle.nap_list.specs.declared.attribute.Preset.{Preset}
 use Rattle.nap_list.specs.Types.{Attributes, Base, Colour, Drawing, Entry, Hand, Ink, LastChar, MapColour, OpenDefinition, Pen, State, TextLook, Texture}
-use Rattle.nap_list.specs.declared.attribute.CharSize.{CharSize}
-use Rattle.nap_list.specs.declared.state.Definition.{Definition}
-use Rattle.nap_list.specs.Entry.{attributes, WellMade}
-use Rattle.nap_list.specs.Known.{colour_code, is_known, with_known_colour, known_after_reset}
 
 -- the attributes at the start (PROFILE.md, The drawing state)
 

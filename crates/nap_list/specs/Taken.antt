@@ -1,9 +1,5 @@
 use Rattle.std.specs.Prelude.{drop, take}
-use Rattle.nap_list.specs.Types.{State}
-use Rattle.nap_list.specs.declared.sink_state.Taken.{Taken}
-use Rattle.nap_list.specs.Batches.{batch_entries}
-use Rattle.nap_list.specs.Shapes.{entry_of_shape}
-use Rattle.nap_list.specs.State.{after, start, walk}
+use Rattle.nap_list.specs.{Types.State, declared.sink_state.Taken.Taken, Batches.batch_entries, Shapes.entry_of_shape, State.after, State.start, State.walk}
 
 -- the state that entries leave after earlier ones
 abbrev pub state_left : Taken → State

@@ -1,7 +1,5 @@
 use Rattle.std.proofs.Common.{◌≡◌, List, [], ◌∷◌, ◌++◌, refl}
-use Rattle.nap_list.specs.Types.{Entry, State}
-use Rattle.nap_list.specs.State.{after, walk, AllFit, Fits}
-use Rattle.nap_list.specs.Laws.{WalksJoin, FitsJoin}
+use Rattle.nap_list.specs.{Types.Entry, Types.State, State.after, State.walk, State.AllFit, State.Fits, Laws.WalksJoin, Laws.FitsJoin}
 
 -- How walks and fitting lists join.
 

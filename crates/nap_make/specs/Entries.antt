@@ -1,8 +1,5 @@
 use Rattle.std.specs.Prelude.{Err, List, Ok, Result, [], codes, length, ℕ, ◌++◌, ◌+◌, ◌∷◌, ◌≡◌, ◌⊎◌}
-use Rattle.nap_make.specs.Types.{Entry, InRange, Kind, WellMade, line}
-use Rattle.nap_make.specs.declared.fault.LineFault.{LineFault}
-use Rattle.nap_make.specs.Kinds.{HasPoints, line_from}
-use Rattle.nap_make.specs.Reading.{WritesNone, IsWritten}
+use Rattle.nap_make.specs.{Types.Entry, Types.InRange, Types.Kind, Types.WellMade, Types.line, declared.fault.LineFault.LineFault, Kinds.HasPoints, Kinds.line_from, Reading.WritesNone, Reading.IsWritten}
 
 -- a well-made entry in range
 pub record IsProper (e : Entry) : Type 0 where

@@ -1,11 +1,7 @@
 use Rattle.std.specs.Prelude.{IfSome, List, Option, codes, ℕ, ⊤, ◌++◌}
 use Rattle.nap_make.specs.Types.{ColourInRange, Displacement, IsInRange, TextStep, colour_text, flag_text, look_text, move_text, pen_text, size_text, texture_text}
 use Rattle.nap_codes.specs.declared.control.Size.{Size}
-use Rattle.nap_list.specs.declared.attribute.CharSize.{CharSize}
-use Rattle.nap_list.specs.declared.attribute.Colour.{Colour}
-use Rattle.nap_list.specs.declared.attribute.Pen.{Pen}
-use Rattle.nap_list.specs.declared.attribute.TextLook.{TextLook}
-use Rattle.nap_list.specs.declared.attribute.Texture.{Texture}
+use Rattle.nap_list.specs.{declared.attribute.CharSize.CharSize, declared.attribute.Colour.Colour, declared.attribute.Pen.Pen, declared.attribute.TextLook.TextLook, declared.attribute.Texture.Texture}
 use Rattle.nap_make.specs.declared.attribute.TextModes.{TextModes}
 
 -- The fields with their keys.

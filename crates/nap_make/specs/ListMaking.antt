@@ -1,8 +1,6 @@
 use Rattle.std.specs.Prelude.{All, Err, IsSome, List, Ok, Result, [], false, length, true, ℕ, ◌++◌, ◌+◌, ◌<◌, ◌∷◌, ◌≡◌, ◌≢◌, ◌≤◌, ◌⊎◌}
 use Rattle.nap_make.specs.Types.{AllFit, Entry, Fits, Ghosts, IsCutOff, IsReadWhole, LineMaker, ListFault, MakeFault, NoneFailed, Reading, lines, start, walk}
-use Rattle.nap_make.specs.Entries.{IsProper, TellsColumn}
-use Rattle.nap_make.specs.Laws.{longest_line}
-use Rattle.nap_make.specs.declared.lines.reader.LineReader.{LineReader}
+use Rattle.nap_make.specs.{Entries.IsProper, Entries.TellsColumn, Laws.longest_line, declared.lines.reader.LineReader.LineReader}
 use Rattle.nap_make.specs.Lists.{AreLines, BeginsNoLine, ComeFirst, LinesSoFar, MakesNone, OpenedAt, ShowsNone}
 
 -- What a sink has taken.

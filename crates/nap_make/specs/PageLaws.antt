@@ -1,8 +1,7 @@
 use Rattle.std.specs.Prelude.{List, ℕ, ◌↔◌, ◌≡◌}
-use Rattle.nap_make.specs.Types.{lines}
+use Rattle.nap_make.specs.{Types.lines, Making.IsMadeOf}
 use Rattle.nap_reader.specs.Stream.{means}
 use Rattle.nap_canon.specs.Streams.{IsAccepted, list_of, IsCanonicalOf}
-use Rattle.nap_make.specs.Making.{IsMadeOf}
 
 -- Two accepted pages have equal canonical streams exactly if their lists have equal lines, whatever their budgets.
 abbrev pub ListsTellStreams : Type 0

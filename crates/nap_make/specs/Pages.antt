@@ -1,9 +1,7 @@
 use Rattle.std.specs.Prelude.{All, Bool, Err, List, Ok, Result, false, length, true, ℕ, ◌≡◌, ◌≢◌, ◌≤◌, ◌⊎◌}
 use Rattle.nap_make.specs.Types.{Entry, IsCutOff, IsReadWhole, ListFault, MakeFault, NoneFailed, Reading, text}
 use Rattle.nap_canon.specs.Converting.{IsPrefixOf, count_of}
-use Rattle.nap_make.specs.Lists.{LinesSoFar, MakesNone, ShowsNone}
-use Rattle.nap_make.specs.declared.page.PageFault.{PageFault}
-use Rattle.nap_make.specs.Making.{IsMadeOf}
+use Rattle.nap_make.specs.{Lists.LinesSoFar, Lists.MakesNone, Lists.ShowsNone, declared.page.PageFault.PageFault, Making.IsMadeOf}
 
 -- A page made of lines: the bytes p were read, and the output took q.
 

@@ -1,11 +1,7 @@
 use Rattle.std.specs.Prelude.{All, Err, List, None, Ok, Option, Result, Some, [], false, length, true, ℕ, ◌++◌, ◌∷◌, ◌≡◌, ◌≢◌, ◌≤◌, ◌⊎◌}
 use Rattle.nap_make.specs.Types.{Coordinates, Entry, Hand, IsInSquare, Kind, Sort, TextStep, Value, point_text}
-use Rattle.nap_list.specs.declared.attribute.Area.{Area}
-use Rattle.nap_list.specs.declared.attribute.Ink.{Ink}
-use Rattle.nap_list.specs.Limits.{points_limit}
-use Rattle.nap_make.specs.Kinds.{line_from}
-use Rattle.nap_make.specs.Reading.{WritesNone}
-use Rattle.nap_make.specs.Sorts.{InSort, field_text}
+use Rattle.nap_list.specs.{declared.attribute.Area.Area, declared.attribute.Ink.Ink, Limits.points_limit}
+use Rattle.nap_make.specs.{Kinds.line_from, Reading.WritesNone, Sorts.InSort, Sorts.field_text}
 
 -- Rows of fields.
 

@@ -1,12 +1,8 @@
 use Rattle.std.specs.Prelude.{Err, List, Ok, Result, [], flat_map, length, ℕ, ◌++◌, ◌∷◌, ◌≡◌, ◌≢◌, ◌≤◌}
 use Rattle.nap_make.specs.Types.{Entry, Fits, Ghosts, Hand, LineMaker, MakeFault, after, code_text, line, lines}
 use Rattle.nap_codes.specs.declared.code_set.CharSet.{CharSet}
-use Rattle.nap_list.specs.declared.attribute.Pen.TheVariants.{After}
-use Rattle.nap_list.specs.declared.sink.SinkFault.{SinkFault}
-use Rattle.nap_list.specs.declared.state.State.{State}
-use Rattle.nap_make.specs.Entries.{IsProper}
-use Rattle.nap_make.specs.ListMaking.{MakerHasPut, SinkBroke, SinkTook}
-use Rattle.nap_make.specs.declared.lines.maker.CharLine.{CharLine}
+use Rattle.nap_list.specs.{declared.attribute.Pen.TheVariants.After, declared.sink.SinkFault.SinkFault, declared.state.State.State}
+use Rattle.nap_make.specs.{Entries.IsProper, ListMaking.MakerHasPut, ListMaking.SinkBroke, ListMaking.SinkTook, declared.lines.maker.CharLine.CharLine}
 
 -- Lines that differ from the one before in their character alone.
 

@@ -1,9 +1,6 @@
 use Rattle.std.specs.Prelude.{List, length, ℕ, ◌≡◌}
 use Rattle.nap_make.specs.Types.{Entry, IsCutOff, ListFault, MakeFault, NoneFailed, Reading}
-use Rattle.nap_make.specs.Lists.{MakesNone}
-use Rattle.nap_make.specs.declared.page.MadePage.{MadePage}
-use Rattle.nap_make.specs.Making.{IsMadeOf}
-use Rattle.nap_make.specs.Pages.{RefusesLinesBy}
+use Rattle.nap_make.specs.{Lists.MakesNone, declared.page.MadePage.MadePage, Making.IsMadeOf, Pages.RefusesLinesBy}
 
 -- A page made in memory of the lines p.
 

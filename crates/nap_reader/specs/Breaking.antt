@@ -1,7 +1,6 @@
 use Rattle.std.specs.Prelude.{IsSome, List, None, Option, Some, [], false, if◌then◌else◌, length, slice_index, take, true, ℕ, ◌++◌, ◌<◌, ◌∷◌, ◌≡◌, ◌≢◌, ◌⊎◌}
 use Rattle.nap_reader.specs.Names.{BreaksAmid, Cause, Entry, Ghosts, StopsAmid, device, memory, stream}
-use Rattle.nap_reader.specs.declared.fault.Fault.{Fault}
-use Rattle.nap_reader.specs.declared.fault.Refusal.{Refusal}
+use Rattle.nap_reader.specs.{declared.fault.Fault.Fault, declared.fault.Refusal.Refusal}
 use Rattle.nap_reader.specs.Stream.{Outcome, Unfinished, open_run, open_body, is_operand_byte, begun, with_run}
 
 -- Breaks: the stream itself isn't refused, but memory is lacking, or the sink's device fails.

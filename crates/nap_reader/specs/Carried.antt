@@ -2,8 +2,7 @@ use Rattle.std.specs.Prelude.{None, Option, Some, [], ℕ, ⊤, ◌∷◌, ◌�
 use Rattle.nap_reader.specs.Names.{CharSet, Code, CodeSets, IsDrawn, IsDrawn-prop, IsGraphic, LexerState}
 use Rattle.std.proofs.Props.{props}
 use Rattle.nap_codes.specs.Front as codes
-use Rattle.nap_reader.specs.declared.body.OpenBody.{OpenBody}
-use Rattle.nap_reader.specs.declared.machine.OpenRun.{OpenRun}
+use Rattle.nap_reader.specs.{declared.body.OpenBody.OpenBody, declared.machine.OpenRun.OpenRun}
 
 -- the opcode of an open run has a rule
 abbrev pub HasRule : Option OpenRun → Type 0

@@ -1,8 +1,6 @@
 use Rattle.std.specs.Prelude.{Err, List, None, Ok, Option, Result, Some, [], length, true, ℕ, ◌^◌, ◌≡◌, ◌≤◌, ◌⊎◌}
-use Rattle.nap_reader.specs.Names.{IsCutOff, IsReadWhole, NoneFailed, ReadFailed, Reading}
+use Rattle.nap_reader.specs.{Names.IsCutOff, Names.IsReadWhole, Names.NoneFailed, Names.ReadFailed, Names.Reading, Laws.WantsSome, declared.feeding.ReadFault.ReadFault}
 use Rattle.nap_reader.specs.Shared.{Cause, stream, memory, device, Ghosts, Refusal, cause_of, BreaksWithin, LacksWithin, TookPrefix, means}
-use Rattle.nap_reader.specs.Laws.{WantsSome}
-use Rattle.nap_reader.specs.declared.feeding.ReadFault.{ReadFault}
 
 -- Reading of a page into a sink, without keeping its bytes.
 

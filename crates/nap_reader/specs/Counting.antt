@@ -1,8 +1,6 @@
 use Rattle.std.specs.Prelude.{List, Option, [], length, ℕ, ◌++◌, ◌+◌}
-use Rattle.nap_reader.specs.Names.{Entry, Ghosts}
-use Rattle.std.proofs.Common.{length-append}
-use Rattle.std.proofs.Math.Nat.{add-zero, add_assoc}
-use Rattle.nap_reader.specs.Collecting.{IsCount}
+use Rattle.nap_reader.specs.{Names.Entry, Names.Ghosts, Collecting.IsCount}
+use Rattle.std.proofs.{Common.length-append, Math.Nat.add-zero, Math.Nat.add_assoc}
 
 -- The model of a sink that counts the entries of another sink: that sink, and the number of entries it took, if a `u64`
 -- can hold it.

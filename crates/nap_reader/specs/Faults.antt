@@ -1,6 +1,5 @@
 use Rattle.std.specs.Prelude.{ℕ, List, codes}
-use Rattle.nap_reader.specs.Names.{CodeFault, DrawFault}
-use Rattle.nap_reader.specs.declared.fault.Fault.{Fault}
+use Rattle.nap_reader.specs.{Names.CodeFault, Names.DrawFault, declared.fault.Fault.Fault}
 
 -- the number of a refusal, and its name as it is printed
 abbrev pub row_of_fault : Fault → ℕ × List ℕ

@@ -1,9 +1,7 @@
 use Rattle.std.specs.Prelude.{Bool, Err, List, None, Ok, Option, Result, Some, false, length, slice_index, take, true, ℕ, ⊤, ◌++◌, ◌+◌, ◌<◌, ◌≡◌, ◌≢◌, ◌≤◌}
 use Rattle.nap_reader.specs.Names.{Consumes, IsCutOff, IsReadWhole, NoneFailed, Reading, reading}
-use Rattle.nap_reader.specs.Shared.{Ghosts, Refusal, Reader, cause_of, begun}
+use Rattle.nap_reader.specs.{Shared.Ghosts, Shared.Refusal, Shared.Reader, Shared.cause_of, Shared.begun, declared.fault.Fault.Fault, declared.feeding.FeedFault.FeedFault}
 use Rattle.nap_list.specs.declared.device.Inlet as inlet
-use Rattle.nap_reader.specs.declared.fault.Fault.{Fault}
-use Rattle.nap_reader.specs.declared.feeding.FeedFault.{FeedFault}
 use Rattle.nap_reader.specs.ReaderAnswers.{HasRead, StopsBy, budget_of, left_of, refusal_of, sink_of}
 
 -- Feeding a reader what an input gives.

@@ -1,7 +1,5 @@
 use Rattle.std.specs.Prelude.{◌≡◌, ◌<◌, ◌≤◌, ◌+◌, ◌++◌, ℕ, List, [], ◌∷◌, All}
-use Rattle.nap_reader.specs.declared.frames.Frame.{Frame}
-use Rattle.nap_reader.specs.Stored.{sublist}
-use Rattle.nap_reader.specs.Stream.{Placed, all_at}
+use Rattle.nap_reader.specs.{declared.frames.Frame.Frame, Stored.sublist, Stream.Placed, Stream.all_at}
 
 -- What remains to be read of the bodies that are being read.
 

@@ -1,6 +1,5 @@
 use Rattle.std.specs.Prelude.{Bool, ℕ}
-use Rattle.nap_codes.specs.declared.code.Code.{Code}
-use Rattle.nap_codes.specs.declared.opcode.Opcode.{Opcode}
+use Rattle.nap_codes.specs.{declared.code.Code.Code, declared.opcode.Opcode.Opcode}
 
 -- what a reader does with a code
 pub data Kind : Type 0 where

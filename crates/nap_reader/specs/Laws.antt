@@ -1,8 +1,7 @@
 use Rattle.std.specs.Prelude.{All, List, None, Some, [], false, length, slice_index, take, ℕ, ⊤, ◌++◌, ◌+◌, ◌<◌, ◌∷◌, ◌≡◌, ◌≢◌, ◌≤◌, ◌⊎◌}
-use Rattle.nap_reader.specs.Names.{AllInRange, IsOperandByte, Legal}
+use Rattle.nap_reader.specs.{Names.AllInRange, Names.IsOperandByte, Names.Legal, ReaderAnswers.StopsBy}
 use Rattle.nap_reader.specs.Shared.{Code, CodeSets, Opcode, code_rule, stream, memory, rule, Entry, Ghosts, run_limit, Refusal, between, cause_of, BreaksFrom, BreaksInRun, BreaksWithin, LacksWithin, pause, continue, outcome_by_front, Placed, Machine, Outcome, bytes_of, carried_words, is_operand, open_run, drawn_front, stream_front, placed_from, outcome_from, begun, means}
 use Rattle.nap_codes.specs.Front as codes
-use Rattle.nap_reader.specs.ReaderAnswers.{StopsBy}
 
 -- The outcome of a list is that of its front, and then that of the list that remains.
 abbrev pub FrontAfterFront : Type 0

@@ -1,9 +1,6 @@
 use Rattle.std.specs.Prelude.{List, None, length, take, ℕ, ◌++◌, ◌+◌, ◌<◌, ◌∷◌, ◌≡◌, ◌≤◌}
 use Rattle.nap_reader.specs.Names.{CharSet, Ghosts, IsCharacter, IsGraphic, IsOpcode, LexerState, Opcode, prefix_len}
-use Rattle.nap_reader.specs.declared.reader.Reader.{Reader}
-use Rattle.nap_reader.specs.declared.reader.Ahead.{Ahead}
-use Rattle.nap_reader.specs.Prefix.{is_of_text}
-use Rattle.nap_reader.specs.Stream.{begun, is_operand_byte}
+use Rattle.nap_reader.specs.{declared.reader.Reader.Reader, declared.reader.Ahead.Ahead, Prefix.is_of_text, Stream.begun, Stream.is_operand_byte}
 
 -- What the first bytes of a piece add, if it comes next.
 

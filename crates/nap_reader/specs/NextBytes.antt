@@ -1,9 +1,6 @@
 use Rattle.std.specs.Prelude.{Bool, List, Option, Some, [], drop, length, true, ℕ, ◌++◌, ◌+◌, ◌-◌, ◌<◌, ◌^◌, ◌∷◌, ◌≡◌, ◌≤◌, ◌⊎◌}
-use Rattle.nap_reader.specs.declared.frames.Frame.{Frame}
+use Rattle.nap_reader.specs.{declared.frames.Frame.Frame, Steps.IsOver, Stored.Exceeds, Stored.StoreState, declared.store.Promise.Promise}
 use Rattle.nap_reader.specs.Shared.{ends_body, Budget, Fault, Input, Memory, OpenBody, Placed, bytes_of, placed_at, placed_by_step, placed_from, store_limit, unread_of}
-use Rattle.nap_reader.specs.Steps.{IsOver}
-use Rattle.nap_reader.specs.Stored.{Exceeds, StoreState}
-use Rattle.nap_reader.specs.declared.store.Promise.{Promise}
 
 -- The bytes that come next, and what an input makes of them. No caller sees these definitions.
 

@@ -1,8 +1,6 @@
 use Rattle.std.specs.Prelude.{All, Bool, List, None, Some, [], length, slice_index, take, ℕ, ◌++◌, ◌+◌, ◌-◌, ◌<◌, ◌∷◌, ◌≡◌, ◌≤◌}
-use Rattle.nap_reader.specs.Names.{ForNone, StatesAgree}
+use Rattle.nap_reader.specs.{Names.ForNone, Names.StatesAgree, declared.machine.Machine.Machine, declared.machine.Request.Request}
 use Rattle.nap_reader.specs.Shared.{Continues, Fault, Ghosts, Memory, store_limit, ReadingState, Input, Placed, Reader, Refusal, RunAt, begun, bytes_of, reading_state_by, place_at, placed_at, placed_by_step, Entry, Outcome, Owes}
-use Rattle.nap_reader.specs.declared.machine.Machine.{Machine}
-use Rattle.nap_reader.specs.declared.machine.Request.{Request}
 use Rattle.nap_reader.specs.NextBytes.{HasReadOn, IsNextText, Position, Reads, bytes_from, position_of, promise_after}
 use Rattle.nap_reader.specs.ReaderAnswers.{HasRead, StopsAt, budget_of, fed_of, refusal_of, sink_of, turns_of}
 use Rattle.nap_reader.specs.Steps.{Acted, FaultMatchesSink, HasRunMemory, IsSpared, TakesUnder, Works}

@@ -1,19 +1,12 @@
 use Rattle.std.specs.Prelude.{List, None, Option, Some, [], false, length, ℕ, ⊤, ◌++◌, ◌+◌, ◌-◌, ◌∷◌, ◌≡◌, ◌≤◌}
 use Rattle.nap_reader.specs.Names.{Code, CodeSets, Entry, Ghosts, Work, operand_words, run_limit, start, stream}
 use Rattle.nap_codes.specs.Front as codes
-use Rattle.nap_reader.specs.declared.fault.Refusal.{Refusal}
-use Rattle.nap_reader.specs.declared.body.OpenBody.{OpenBody}
-use Rattle.nap_reader.specs.declared.machine.OpenRun.{OpenRun}
+use Rattle.nap_reader.specs.{declared.fault.Refusal.Refusal, declared.body.OpenBody.OpenBody, declared.machine.OpenRun.OpenRun, declared.input.Input.Input, declared.reader.Reader.Reader, Framed.unread, Course.prepend, Breaking.cause_of}
 use Rattle.nap_reader.specs.declared.machine.Machine as struct
-use Rattle.nap_reader.specs.declared.input.Input.{Input}
-use Rattle.nap_reader.specs.declared.reader.Reader.{Reader}
 use Rattle.nap_reader.specs.Bodies as bodies
 use Rattle.nap_reader.specs.Bodies.{Mode, between, in_body, BodyFront, store_limit, body_front}
-use Rattle.nap_reader.specs.Framed.{unread}
-use Rattle.nap_reader.specs.Course.{prepend}
 use Rattle.nap_reader.specs.Stream as model
 use Rattle.nap_reader.specs.Stream.{Placed, Machine, Outcome, Unfinished, open_body, refusal, bytes_of, carried_words, run_length, half_read, outcome_from}
-use Rattle.nap_reader.specs.Breaking.{cause_of}
 
 -- The state of a reader between two bytes, and how it leads to the meaning of the stream. No caller sees these
 -- definitions.

@@ -1,13 +1,8 @@
 use Rattle.std.specs.Prelude.{All, Bool, List, None, Ok, Option, Some, [], drop, false, get_or, if◌then◌else◌, length, slice_index, take, true, vec_capacity, ℕ, ⊤, ◌*◌, ◌++◌, ◌+◌, ◌<◌, ◌∷◌, ◌≡◌, ◌≢◌, ◌≤◌, ◌⊎◌}
-use Rattle.nap_reader.specs.Names.{Code, IsShift, State, StatesAgree}
+use Rattle.nap_reader.specs.{Names.Code, Names.IsShift, Names.State, Names.StatesAgree, declared.machine.Machine.Machine, declared.machine.Request.Request, declared.machine.codes.FrontCode.FrontCode, declared.machine.codes.CodeOutcome.CodeOutcome, Carried.AllCharacters}
 use Rattle.nap_reader.specs.Shared.{run_limit, CharSet, CodeSets, Continues, DrawFault, RuleResult, DrawsBy, Entry, Fault, Ghosts, ReadingState, IsDrawn, IsGraphic, ArePending, IsOwn, IsRefused, IsTextByte, LexerState, Memory, NeverWants, Opcode, OpenBody, OpenRun, Outcome, Placed, Refusal, RunAt, Sink, after_drawing, body_of, bytes_of, cause_of, draw_fault, stream_front, in_body, is_operand, is_operand_byte, no_names, place_at, placed_at, placed_by_step, refusal, rule, run_by, shown_front, stream, Cause, Ends, Owes, begun, device, kept_list, memory, with_run}
 use Rattle.nap_codes.specs.Front as codes
 use Rattle.nap_draw.specs.Draws as draws
-use Rattle.nap_reader.specs.declared.machine.Machine.{Machine}
-use Rattle.nap_reader.specs.declared.machine.Request.{Request}
-use Rattle.nap_reader.specs.declared.machine.codes.FrontCode.{FrontCode}
-use Rattle.nap_reader.specs.declared.machine.codes.CodeOutcome.{CodeOutcome}
-use Rattle.nap_reader.specs.Carried.{AllCharacters}
 use Rattle.nap_list.specs.Putting as put
 
 -- What a reader does with the next bytes. No caller sees these definitions.

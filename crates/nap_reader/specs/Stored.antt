@@ -1,7 +1,5 @@
 use Rattle.std.specs.Prelude.{◌≡◌, ◌<◌, ◌≤◌, ◌⊎◌, ◌+◌, ◌-◌, ◌++◌, ℕ, List, [], ◌∷◌, take, drop, length, All}
-use Rattle.nap_reader.specs.declared.store.Promise.{Promise}
-use Rattle.nap_reader.specs.declared.store.Span.{Span}
-use Rattle.nap_reader.specs.Bodies.{bind, store_limit}
+use Rattle.nap_reader.specs.{declared.store.Promise.Promise, declared.store.Span.Span, Bodies.bind, Bodies.store_limit}
 
 -- The store of the bodies of macros.
 

@@ -1,10 +1,7 @@
 use Rattle.std.specs.Prelude.{Bool, Err, List, None, Ok, Option, Result, Some, [], drop, false, if◌then◌else◌, length, map, nat_le, nat_lt, suc, take, true, zero, ℕ, ◌&&◌, ◌++◌, ◌+◌, ◌-◌, ◌∷◌}
 use Rattle.nap_reader.specs.Names.{Code, CodeSets, DrawFault, Entry, Opcode, OpenDefinition, RuleResult, Work, code_rule, prefix_len, rule, run_limit, start_sets, start_work}
 use Rattle.nap_codes.specs.Front as codes
-use Rattle.nap_reader.specs.declared.fault.Fault.{Fault}
-use Rattle.nap_reader.specs.declared.fault.Refusal.{Refusal}
-use Rattle.nap_reader.specs.Faults.{code_fault, draw_fault}
-use Rattle.nap_reader.specs.Kinds.{Kind, kind_of}
+use Rattle.nap_reader.specs.{declared.fault.Fault.Fault, declared.fault.Refusal.Refusal, Faults.code_fault, Faults.draw_fault, Kinds.Kind, Kinds.kind_of}
 use Rattle.nap_reader.specs.Bodies as bodies
 use Rattle.nap_reader.specs.Bodies.{Mode, between, in_body, no_names, body_of, bind, store_limit, body_front}
 use Rattle.nap_reader.specs.Course as course

@@ -1,10 +1,5 @@
 use Rattle.std.specs.Prelude.{Err, List, None, Ok, Result, Some, [], true, ℕ, ◌≡◌, ◌≢◌, ◌⊎◌}
-use Rattle.nap_reader.specs.Names.{Cause, Ghosts, device, memory, stream}
-use Rattle.nap_reader.specs.declared.fault.Refusal.{Refusal}
-use Rattle.nap_reader.specs.Breaking.{cause_of, BreaksWithin, NeverWants, TookPrefix}
-use Rattle.nap_reader.specs.Collecting.{LacksMemoryFor, RefusedBy}
-use Rattle.nap_reader.specs.Stream.{means}
-use Rattle.nap_reader.specs.declared.twice.TwiceFault.{TwiceFault}
+use Rattle.nap_reader.specs.{Names.Cause, Names.Ghosts, Names.device, Names.memory, Names.stream, declared.fault.Refusal.Refusal, Breaking.cause_of, Breaking.BreaksWithin, Breaking.NeverWants, Breaking.TookPrefix, Collecting.LacksMemoryFor, Collecting.RefusedBy, Stream.means, declared.twice.TwiceFault.TwiceFault}
 
 -- A page is read into a sink and, if it is accepted, again into another.
 

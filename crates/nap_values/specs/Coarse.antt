@@ -1,8 +1,5 @@
 use Rattle.std.specs.Prelude.{ℕ, ◌≡◌, ◌==◌, ◌<◌, ◌+◌, ◌*◌, ◌/◌, ◌%◌, Bool, List, map, bit_and}
-use Rattle.nap_values.specs.PackedCoordinates.{x_in, packed_coordinates}
-use Rattle.nap_values.specs.Coordinates.{Coordinates}
-use Rattle.nap_values.specs.Digits.{value_of}
-use Rattle.nap_values.specs.Operands.{x_digit, y_digit}
+use Rattle.nap_values.specs.{PackedCoordinates.x_in, PackedCoordinates.packed_coordinates, Coordinates.Coordinates, Digits.value_of, Operands.x_digit, Operands.y_digit}
 
 -- The nine highest bits of two numbers of 24 bits, in one such number: its first three digits in base 8 are those of y,
 -- and its fifth to seventh those of x. The other two are zero.

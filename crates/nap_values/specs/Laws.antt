@@ -1,7 +1,6 @@
 use Rattle.std.specs.Prelude.{ℕ, ◌≡◌, ◌<◌, ◌≤◌, ◌++◌, Some, List, length, replicate, All}
 use Rattle.nap_values.specs.Coordinates.{Coordinates, Displacement, IsInSquare, IsInRange, point_at, displaced_point, displacement_to}
-use Rattle.nap_values.specs.Colours.{Components, HasSixteenBitParts}
-use Rattle.nap_values.specs.Operands.{multi_of, single_of, colour_of}
+use Rattle.nap_values.specs.{Colours.Components, Colours.HasSixteenBitParts, Operands.multi_of, Operands.single_of, Operands.colour_of}
 use Rattle.nap_values.specs.Spellings.{operand_bytes, words_of, move_bytes, point_bytes, addr_bytes, grb_bytes}
 
 -- a word: six bits

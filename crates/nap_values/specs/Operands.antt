@@ -1,8 +1,5 @@
 use Rattle.std.specs.Prelude.{ℕ, ◌+◌, ◌*◌, ◌/◌, ◌%◌, List, map}
-use Rattle.nap_values.specs.TwosComplement.{signed_of}
-use Rattle.nap_values.specs.Digits.{value_of}
-use Rattle.nap_values.specs.Coordinates.{Displacement}
-use Rattle.nap_values.specs.Colours.{Components}
+use Rattle.nap_values.specs.{TwosComplement.signed_of, Digits.value_of, Coordinates.Displacement, Colours.Components}
 
 -- the words that bytes carry: the low six bits of each
 abbrev pub operand_words : List ℕ → List ℕ

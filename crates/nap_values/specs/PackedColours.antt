@@ -1,8 +1,5 @@
 use Rattle.std.specs.Prelude.{ℕ, map}
-use Rattle.nap_values.specs.Digits.{value_of, digits_of}
-use Rattle.nap_values.specs.Operands.{g_digit, r_digit, b_digit}
-use Rattle.nap_values.specs.Spellings.{words_of_triples}
-use Rattle.nap_values.specs.PackedCoordinates.{words_in}
+use Rattle.nap_values.specs.{Digits.value_of, Digits.digits_of, Operands.g_digit, Operands.r_digit, Operands.b_digit, Spellings.words_of_triples, PackedCoordinates.words_in}
 
 -- the 16 bits of green in the words that a number holds
 unfoldable pub g_in : ℕ → ℕ

@@ -1,8 +1,5 @@
 use Rattle.std.specs.Prelude.{ℕ, List, map, All}
-use Rattle.nap_values.specs.Digits.{value_of, digits_of}
-use Rattle.nap_values.specs.Operands.{x_digit, y_digit}
-use Rattle.nap_values.specs.Spellings.{words_of_pairs}
-use Rattle.nap_values.specs.Laws.{IsWord}
+use Rattle.nap_values.specs.{Digits.value_of, Digits.digits_of, Operands.x_digit, Operands.y_digit, Spellings.words_of_pairs, Laws.IsWord}
 
 -- the eight words that a number holds, one to a byte, the first in the highest
 unfoldable pub words_in : ℕ → List ℕ

@@ -1,8 +1,5 @@
 use Rattle.std.specs.Prelude.{ℕ, ◌+◌, ◌-◌, ◌*◌, ◌/◌, ◌%◌, List, [], ◌∷◌, map}
-use Rattle.nap_values.specs.TwosComplement.{bits_of}
-use Rattle.nap_values.specs.Digits.{digits_of}
-use Rattle.nap_values.specs.Coordinates.{Coordinates, Displacement}
-use Rattle.nap_values.specs.Colours.{Components}
+use Rattle.nap_values.specs.{TwosComplement.bits_of, Digits.digits_of, Coordinates.Coordinates, Coordinates.Displacement, Colours.Components}
 
 -- the operand bytes that carry words
 abbrev pub operand_bytes : List ℕ → List ℕ
