@@ -1,6 +1,5 @@
+unfoldable pub use Common.*
 mod Common
 mod AnswerLemmas
-mod CheckLemmas
-mod KeptLemmas
+mod ValueLemmas
 pub mod LawLemmas
-mod LooseLemmas

@@ -1,11 +1,14 @@
+unfoldable pub use Common.*
 mod Common
-pub mod prelude
-pub mod reading
-pub mod spelling
-pub mod reading_back
-pub mod plain_codes
-pub mod operand_lengths
-pub mod texts
-pub mod sinks
-pub mod conversions
+pub mod Preludes
+pub mod PlainCodes
+pub mod Operands
+pub mod Pieces
+pub mod Spelling
+pub mod ReadingBack
+pub mod PlainLengths
+pub mod Texts
+pub mod JoinedEntries
+pub mod Sinks
+pub mod Conversions
 pub mod PublicLaws

@@ -1,48 +1,38 @@
-use Rattle.nap_cli.proofs.Common.{Err, ErrorKind, Explains, FlushesOnce, IsPlainText, IsUtf8, List, Ok, Option, Outputs, PrintsHelp, ReportsNoMemory, ReportsWrong, Result, ShowsHelp, [], arith, inl, inr, is_plain, list_all, or-true, refl, slice_index, suc, take, true, zero, ℕ, ◌<◌, ◌||◌, ◌∙◌, ◌∷◌, ◌≡◌, ◌≢◌}
-use Rattle.nap_command.specs.Devices.{TakesText}
-use Rattle.nap_command.specs.declared.failure.Failure.{Failure}
-use Rattle.std.proofs.lemmas.Bool.{and_from, and_parts}
-use Rattle.std.proofs.lemmas.Str.{IsUtf8-from_ascii}
+use Rattle.nap_cli.proofs.{Err, ErrorKind, Explains, FlushesOnce, IsPlainText, IsUtf8, List, Ok, Option, Outputs, PrintsHelp, ReportsNoMemory, ReportsWrong, Result, ShowsHelp, [], arith, inl, inr, is_plain, list_all, or-true, refl, slice_index, suc, take, true, zero, ℕ, ◌<◌, ◌||◌, ◌∙◌, ◌∷◌, ◌≡◌, ◌≢◌}
+use Rattle.nap_command.specs.{Devices.TakesText, declared.failure.Failure.Failure}
+use Rattle.std.proofs.{lemmas.Bool.and_from, lemmas.Bool.and_parts, lemmas.Str.IsUtf8-from_ascii}
 use Rattle.std.specs.Io.KnownBytes.{Appends}
 
 -- words of any kind, if memory runs out
 
-memory_at_help : (before after : Outputs) (status : ℕ) → ReportsNoMemory before after status → ShowsHelp before after status
-memory_at_help before after status h = record {
-  text = [];
-  e = h.e;
-  ended = Err Failure.Memory;
-  shown = h.unprinted;
-  reported = h.reported;
-  tells = h.tells;
-}
+module _ (before after : Outputs) (status : ℕ) where
+  memory_at_help : ReportsNoMemory before after status → ShowsHelp before after status
+  memory_at_help h = record { text = []; e = h.e; ended = Err Failure.Memory; shown = h.unprinted; reported = h.reported; tells = h.tells }
 
-pub explains_memory : (k : ErrorKind) (before after : Outputs) (status : ℕ) → ReportsNoMemory before after status → Explains k before after status
-explains_memory ErrorKind.DisplayHelp before after status h = memory_at_help before after status h
-explains_memory ErrorKind.DisplayVersion before after status h = memory_at_help before after status h
-explains_memory ErrorKind.OutOfMemory before after status h = h
-explains_memory _ before after status h = inr h
+  pub explains_memory : (k : ErrorKind) → ReportsNoMemory before after status → Explains k before after status
+  explains_memory ErrorKind.DisplayHelp h = memory_at_help h
+  explains_memory ErrorKind.DisplayVersion h = memory_at_help h
+  explains_memory ErrorKind.OutOfMemory h = h
+  explains_memory _ h = inr h
 
--- words that ask for help
-pub explains_help : (k : ErrorKind) (before after : Outputs) (status : ℕ) → ((k ≢ ErrorKind.DisplayHelp) × (k ≢ ErrorKind.DisplayVersion) → ⊥) →
-    ShowsHelp before after status → Explains k before after status
-explains_help ErrorKind.DisplayHelp before after status n h = h
-explains_help ErrorKind.DisplayVersion before after status n h = h
-explains_help _ before after status n h = absurd (n (λ e. let bad : ⊥ = cc in bad, λ e. let bad : ⊥ = cc in bad))
+  -- words that ask for help
+  pub explains_help : (k : ErrorKind) → ((k ≢ ErrorKind.DisplayHelp) × (k ≢ ErrorKind.DisplayVersion) → ⊥) → ShowsHelp before after status → Explains k before after status
+  explains_help ErrorKind.DisplayHelp n h = h
+  explains_help ErrorKind.DisplayVersion n h = h
+  explains_help _ n h = absurd (n (λ e. cc, λ e. cc))
+
+  -- words that are wrong
+  pub explains_wrong : (k : ErrorKind) → k ≢ ErrorKind.DisplayHelp → k ≢ ErrorKind.DisplayVersion → k ≢ ErrorKind.OutOfMemory → ReportsWrong before after status → Explains k before after status
+  explains_wrong ErrorKind.DisplayHelp a b c h = absurd (a refl)
+  explains_wrong ErrorKind.DisplayVersion a b c h = absurd (b refl)
+  explains_wrong ErrorKind.OutOfMemory a b c h = absurd (c refl)
+  explains_wrong _ a b c h = inl h
 
 -- help that the output didn't take
 pub shows_failing : (before after : Outputs) (text : List ℕ) (f : Failure) → TakesText before.taken after.taken text (Err f) → after.failed ≡ (before.failed || true) → FlushesOnce before after →
     PrintsHelp before after text (Err f)
 shows_failing before after text (Failure.Write n) h e once = (h, e ∙ or-true before.failed, once)
 shows_failing before after text _ h e once = absurd h
-
--- words that are wrong
-pub explains_wrong : (k : ErrorKind) (before after : Outputs) (status : ℕ) → k ≢ ErrorKind.DisplayHelp → k ≢ ErrorKind.DisplayVersion → k ≢ ErrorKind.OutOfMemory →
-    ReportsWrong before after status → Explains k before after status
-explains_wrong ErrorKind.DisplayHelp before after status a b c h = absurd (a refl)
-explains_wrong ErrorKind.DisplayVersion before after status a b c h = absurd (b refl)
-explains_wrong ErrorKind.OutOfMemory before after status a b c h = absurd (c refl)
-explains_wrong _ before after status a b c h = inl h
 
 -- a part of plain text is plain
 pub plain_part : (n : ℕ) (text : List ℕ) → IsPlainText text → IsPlainText (take n text)

@@ -1,3 +1,4 @@
+unfoldable pub use Common.*
 mod Common
 pub mod CommandLineLemmas
 pub mod ExplainLemmas

@@ -1,19 +1,7 @@
+unfoldable pub use Common.*
 mod Common
-pub mod RowLemmas
 pub mod TableLemmas
-pub mod ControlLemmas
 pub mod FrontLemmas
-pub mod FrontIsSteady
-pub mod FrontLaws
-pub mod FrontBegins
-pub mod HalfLemmas
-pub mod NextLemmas
-pub mod FrontIsSpelled
-pub mod SpelledIsFront
 pub mod SpellingLaws
-pub mod CodeRanges
-pub mod CharacterLemmas
-pub mod OpcodeLemmas
-pub mod LexedLemmas
-pub mod Rows
+pub mod LexerLemmas
 pub mod PublicLaws

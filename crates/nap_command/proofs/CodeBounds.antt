@@ -1,9 +1,14 @@
-use Rattle.nap_command.proofs.Common.{Bool, Code, CodeSet, CodeSets, Colour, DrawFault, EntriesAreBounded, Entry, Err, Fault, LastChar, List, Machine, Mode, None, Ok, Opcode, OpenDefinition, Option, Outcome, Pen, Placed, Refusal, Result, Row, RuleResult, Some, Spells, State, StreamFront, TextIsBounded, Two, Unfinished, Work, [], after, after_body, all_at, and_parts, ap, arith, attributes, begun, between, body_front, body_front_by, body_of, bound_front, bytes_of, carried_words, char_on, closed_front, code_front, code_is_spelled, code_length, code_rule, colour_prelude, command_piece, control0, control0_rows, control1, control1_rows, drawn_front, drop, ended_by, entry_pieces, false, front_by, front_in, half_code, half_read, if◌then◌else◌, in_body, in_gl, kind_of, length, length-append, length-drop, length-map, length-take-le, look_is_current, ltb-false, map, means, nat_lt, nat_tests, non_pdi_code, open_body, open_run, opened_front, pel_prelude, pen_prelude, pieces, place_at, placed_from, prelude, refl, refusal, repeat, repeated_chars, row_of, rule, rule_result, run_length, run_limit, same_colour, same_pen, shown_front, single_shift2, single_shift3, spelling_pieces, start, start_machine, steps_left, store_limit, stream_front, subst, suc, take, take-append-drop, text_end_after_header, texture_prelude, true, walk, with_attributes, with_code, with_definition, with_drawn, with_end, with_last, with_run, with_run_by, zero, ℕ, ◌&&◌, ◌*◌, ◌++◌, ◌+◌, ◌-◌, ◌==◌, ◌∷◌, ◌≡◌, ◌≤◌}
+use Rattle.nap_command.proofs.{Bool, CodeSets, Colour, DrawFault, EntriesAreBounded, Entry, Err, Fault, List, Machine, None, Ok, Opcode, Option, Pen, Refusal, Result, RuleResult, Some, State, TextIsBounded, Two, Work, [], after, and_parts, ap, arith, attributes, begun, colour_prelude, command_piece, control0_rows, control1_rows, drop, ended_by, entry_pieces, false, if◌then◌else◌, kind_of, length, length-append, length-drop, length-map, length-take-le, look_is_current, ltb-false, map, means, nat_lt, nat_tests, non_pdi_code, pel_prelude, pen_prelude, pieces, placed_from, prelude, refl, refusal, repeated_chars, row_of, rule, rule_result, spelling_pieces, start, start_machine, stream_front, subst, suc, take, take-append-drop, text_end_after_header, texture_prelude, true, walk, with_attributes, zero, ℕ, ◌&&◌, ◌*◌, ◌++◌, ◌+◌, ◌-◌, ◌==◌, ◌∷◌, ◌≡◌, ◌≤◌}
 use Rattle.nap_codes.specs.declared.control.Row.TheVariants.{Whole}
+use Rattle.nap_command.proofs.RunBounds.{Adds, char_few, cost, cost_append, entries_few, pieces_few, prelude_few, rule_adds}
 use Rattle.nap_codes.specs.Front as front
 use Rattle.nap_reader.specs.Bodies as bodies
 use Rattle.nap_reader.specs.Course as course
-use Rattle.nap_command.proofs.RunBounds.{Adds, char_few, cost, cost_append, entries_few, pieces_few, prelude_few, rule_adds}
+use Rattle.nap_canon.specs.Equality.{same_colour, same_pen}
+use Rattle.nap_canon.specs.Names.{Code, CodeSet, LastChar, Mode, OpenDefinition, Outcome, Placed, Row, StreamFront, Unfinished, between, body_of, bytes_of, carried_words, char_on, closed_front, code_rule, drawn_front, front_by, front_in, in_body, open_run, opened_front, place_at, run_length, run_limit, shown_front, steps_left, with_definition, with_drawn, with_end, with_last, with_run, with_run_by}
+use Rattle.nap_codes.proofs.PublicLaws.{code_is_spelled, code_length}
+use Rattle.nap_codes.specs.Spelling.{Spells, control0, control1, in_gl, repeat, single_shift2, single_shift3}
+use Rattle.nap_reader.specs.Shared.{after_body, all_at, body_front, body_front_by, bound_front, code_front, half_code, half_read, open_body, store_limit, with_code}
 
 -- How many entries a character or a control adds, and how long their canonical text is.
 
@@ -114,7 +119,7 @@ row_short [] byte row all is = cc
 row_short (r ∷ rows) byte row all is =
     let both = and_parts (is_short r.1) (all_short rows) all in
     (elim (byte == r.0) as (λ b. (if b then Some r.1 else row_of rows byte) ≡ Some row → is_short row ≡ true) [
-      | true ↦ λ e. let same : r.1 ≡ row = cc in subst (λ (x : Row). is_short x ≡ true) same both.0
+      | true ↦ λ e. let same : r.1 ≡ row = cc in rw same at both.0
       | false ↦ row_short rows byte row both.1
     ]) is
 
@@ -131,7 +136,7 @@ unfolding control1_rows
 rows1_short = refl
 
 same_fits : (a b : Code) (n : ℕ) → Some a ≡ Some b → FitsIn a n → FitsIn b n
-same_fits a b n is fits = let e : a ≡ b = cc in subst (λ (x : Code). FitsIn x n) e fits
+same_fits a b n is fits = let e : a ≡ b = cc in rw e at fits
 
 set_fits : (set : CodeSet) (byte : ℕ) (code : Code) (n : ℕ) → non_pdi_code set byte ≡ Some code → 1 ≤ n → FitsIn code n
 unfolding non_pdi_code
@@ -165,15 +170,15 @@ IsFew bytes left (course.pause u) = IsPending (Some u) bytes
 IsFew bytes left (course.refuse r) = Unit {0}
 IsFew bytes left (course.act es m ys) = Takes (bytes + left) (length ys + m.left) es
 
-takes_none : (before after : ℕ) → after ≤ before → Takes before after []
-takes_none before after fewer = record { count = omega (arith, fewer); size = λ t. omega (arith, fewer, no_pieces t) }
+takes_none : {before after : ℕ} → after ≤ before → Takes before after []
+takes_none fewer = record { count = omega (arith, fewer); size = λ t. omega (arith, fewer, no_pieces t) }
 
-takes_some : (before after n : ℕ) (es : List Entry) → Bounded n es → n + after ≤ before → Takes before after es
-takes_some before after n es few parts = record { count = omega (arith, few.count, parts); size = λ t. omega (arith, few.size t, parts) }
+takes_some : {before after n : ℕ} {es : List Entry} → Bounded n es → n + after ≤ before → Takes before after es
+takes_some few parts = record { count = omega (arith, few.count, parts); size = λ t. omega (arith, few.size t, parts) }
 
 -- a code drew, and took some bytes before the rest
 drawn_few : (bytes taken : ℕ) (m : Machine) (place : ℕ) (rest : List Placed) (r : Result RuleResult DrawFault) → AddsFor taken r → taken + length rest ≤ bytes → IsFew bytes m.left (drawn_front m place rest r)
-drawn_few bytes taken m place rest (Ok drawn) few parts = takes_some (bytes + m.left) (length rest + m.left) taken drawn.entries few (omega (arith, parts))
+drawn_few bytes taken m place rest (Ok drawn) few parts = takes_some few (omega (arith, parts))
 drawn_few bytes taken m place rest (Err fault) few parts = tt
 
 -- the bytes of a body were charged
@@ -183,14 +188,13 @@ shown_few bytes m place body rest fewer = by (nat_lt m.left (length body)) refl
     by : (b : Bool) → nat_lt m.left (length body) ≡ b → IsFew bytes m.left (if b then course.refuse (refusal Fault.Budget place) else course.act [] (record m { left = m.left - length body }) (all_at place body ++ rest))
     by true is = tt
     by false is =
-        takes_none (bytes + m.left) (length (all_at place body ++ rest) + (m.left - length body))
-        (omega (arith, ltb-false m.left (length body) is, fewer, length-append (all_at place body) rest, length-all_at place body))
+        takes_none (omega (arith, ltb-false m.left (length body) is, fewer, length-append (all_at place body) rest, length-all_at place body))
 
 closed_few : (bytes taken : ℕ) (m : Machine) (op : Opcode) (place : ℕ) (run rest : List Placed) → 1 ≤ taken → taken + (length run + length rest) ≤ bytes → IsFew bytes m.left (closed_front m op place run rest)
 closed_few bytes taken m op place run [] some parts = omega (arith, some, parts, length-map run (λ x. x.byte - 64))
 closed_few bytes taken m op place run (x ∷ xs) some parts =
-    drawn_few bytes (taken + length run) m place (x ∷ xs) (rule m.work op (carried_words run))
-    (few_for (taken + length run) _ _ (rule_adds m.work (carried_words run) op) (omega (arith, some, length-map run (λ x. x.byte - 64)))) (omega (arith, parts))
+    drawn_few bytes (taken + length run) m place (x ∷ xs) _
+    (few_for _ _ _ (rule_adds m.work (carried_words run) op) (omega (arith, some, length-map run (λ x. x.byte - 64)))) (omega (arith, parts))
 
 opcode_few : (bytes taken : ℕ) (m : Machine) (op : Opcode) (place : ℕ) (xs : List Placed) → 1 ≤ taken → taken + length xs ≤ bytes → IsFew bytes m.left (opened_front m op place xs)
 opcode_few bytes taken m op place xs some parts =
@@ -205,9 +209,9 @@ opcode_few bytes taken m op place xs some parts =
 code_few : (bytes n : ℕ) (m : Machine) (c : Code) (place : ℕ) (rest : List Placed) → 1 ≤ n → n + length rest ≤ bytes → AddsFor n (code_rule m.work c) → IsFew bytes m.left (code_front m (kind_of c) place rest)
 code_few bytes n m (Code.Op op) place rest some parts adds = opcode_few bytes n m op place rest some parts
 code_few bytes n m (Code.Operand word) place rest some parts adds = tt
-code_few bytes n m Code.Fill place rest some parts adds = takes_none (bytes + m.left) (length rest + m.left) (omega (arith, parts))
-code_few bytes n m Code.Shifted place rest some parts adds = takes_none (bytes + m.left) (length rest + m.left) (omega (arith, parts))
-code_few bytes n m (Code.Designated number set) place rest some parts adds = takes_none (bytes + m.left) (length rest + m.left) (omega (arith, parts))
+code_few bytes n m Code.Fill place rest some parts adds = takes_none (omega (arith, parts))
+code_few bytes n m Code.Shifted place rest some parts adds = takes_none (omega (arith, parts))
+code_few bytes n m (Code.Designated number set) place rest some parts adds = takes_none (omega (arith, parts))
 code_few bytes n m (Code.Call name) place rest some parts adds = shown_few bytes m place (body_of m.names name) rest (omega (arith, parts))
 code_few bytes n m (Code.DefMacro name show) place rest some parts adds = drawn_few bytes n (record m { mode = in_body name show }) place rest (code_rule m.work (Code.DefMacro name show)) adds parts
 code_few bytes n m c place rest some parts adds = drawn_few bytes n m place rest (code_rule m.work c) adds parts
@@ -226,7 +230,7 @@ between_few m xs (front.complete c n sets) is =
     (code_adds m.work m.sets (bytes_of xs) c n sets is)
 
 bound_few : (m : Machine) (name : ℕ) (show : Bool) (n : ℕ) (xs : List Placed) → IsFew (length xs) m.left (bound_front m name show n xs)
-bound_few m name false n xs = takes_none (length xs + m.left) (length (drop n xs) + m.left) (omega (arith, length-drop n xs))
+bound_few m name false n xs = takes_none (omega (arith, length-drop n xs))
 bound_few m name true n xs = shown_few (length xs) (after_body m name (take n (bytes_of xs))) (place_at xs (n + 1)) (take (n + 2) (bytes_of xs)) (drop (n + 2) xs) (omega (arith, length-drop (n + 2) xs))
 
 body_few : (m : Machine) (name : ℕ) (show : Bool) (xs : List Placed) (b : bodies.BodyFront) → IsFew (length xs) m.left (body_front_by m name show xs b)
@@ -257,67 +261,65 @@ joined_cost t (e ∷ es) fs =
       joined_cost (after t e) es fs,
     )
 
-takes_both : (m n k : ℕ) (es fs : List Entry) → Takes m n es → Takes n k fs → Takes m k (es ++ fs)
-takes_both m n k es fs first further = record {
+takes_both : {m n k : ℕ} {es fs : List Entry} → Takes m n es → Takes n k fs → Takes m k (es ++ fs)
+takes_both {es = es} {fs} first further = record {
   count = omega (arith, length-append es fs, first.count, further.count);
   size = λ t. omega (arith, joined_cost t es fs, first.size t, further.size (walk t es));
 }
 
 within_few : (fuel : ℕ) (m : Machine) (xs : List Placed) → Bounds (length xs + m.left) (course.outcome_within stream_front fuel m xs)
 unfolding course.outcome_within
-within_few zero m xs = record { takes = takes_none (length xs + m.left) (length xs + m.left) (omega arith); pending = tt }
+within_few zero m xs = record { takes = takes_none (omega arith); pending = tt }
 within_few (suc fuel) m xs = by (stream_front m xs) (front_few m xs) (within_few fuel)
   where
     by : (f : StreamFront) → IsFew (length xs) m.left f → ((m : Machine) (xs : List Placed) → Bounds (length xs + m.left) (course.outcome_within stream_front fuel m xs)) →
         Bounds (length xs + m.left) (course.outcome_by_front (course.outcome_within stream_front fuel) m xs f)
-    by (course.pause u) h next = record { takes = takes_none (length xs + m.left) (length xs + m.left) (omega arith); pending = h }
-    by (course.refuse r) h next = record { takes = takes_none (length xs + m.left) (0 + m.left) (omega arith); pending = tt }
+    by (course.pause u) h next = record { takes = takes_none (omega arith); pending = h }
+    by (course.refuse r) h next = record { takes = takes_none (omega arith); pending = tt }
     by (course.act es k ys) h next =
-        let o = course.outcome_within stream_front fuel k ys in
         let further = next k ys in
-        record { takes = takes_both (length xs + m.left) (length ys + k.left) (length o.rest + o.machine.left) es o.entries h further.takes; pending = further.pending }
+        record { takes = takes_both h further.takes; pending = further.pending }
 
 begun_few : (budget : ℕ) (p : List ℕ) → Bounds (length p + budget) (begun budget p)
 unfolding course.outcome
 begun_few budget p =
     let h = within_few (suc (length (placed_from 0 p) + steps_left (start_machine budget))) (start_machine budget) (placed_from 0 p) in
-    subst (λ (n : ℕ). Bounds (n + budget) (begun budget p)) (length-placed 0 p) h
+    subst (λ n. Bounds (n + budget) (begun budget p)) (length-placed 0 p) h
 
 -- the end adds the entries of an open run alone
 
-definition_within : (n place : ℕ) (o : Outcome) (opened : Option OpenDefinition) → Bounded n o.entries → Bounded n (with_definition o place opened).entries
-definition_within n place o None h = h
-definition_within n place o (Some opened) h = h
+module _ {n : ℕ} (place : ℕ) (o : Outcome) (h : Bounded n o.entries) where
+  definition_within : (opened : Option OpenDefinition) → Bounded n (with_definition o place opened).entries
+  definition_within None = h
+  definition_within (Some opened) = h
 
-code_within : (n place : ℕ) (o : Outcome) (u : Option Unfinished) → Bounded n o.entries → Bounded n (with_code o place u).entries
-code_within n place o (Some (half_code bytes)) h = h
-code_within n place o (Some open_body) h = h
-code_within n place o _ h = definition_within n place o o.machine.work.state.definition h
+  code_within : (u : Option Unfinished) → Bounded n (with_code o place u).entries
+  code_within (Some (half_code bytes)) = h
+  code_within (Some open_body) = h
+  code_within _ = definition_within o.machine.work.state.definition
 
-end_within : (n place : ℕ) (o : Outcome) (r : Option Refusal) → Bounded n o.entries → Bounded n (with_end o place r).entries
-end_within n place o (Some r) h = h
-end_within n place o None h = code_within n place o o.unfinished h
+  end_within : (r : Option Refusal) → Bounded n (with_end o place r).entries
+  end_within (Some r) = h
+  end_within None = code_within o.unfinished
 
 -- entries are bounded without what is left
-whole : (n after : ℕ) (es : List Entry) → Takes n after es → Bounded n es
-whole n after es h = record { count = omega (arith, h.count); size = λ t. omega (arith, h.size t) }
+whole : {n after : ℕ} {es : List Entry} → Takes n after es → Bounded n es
+whole h = record { count = omega (arith, h.count); size = λ t. omega (arith, h.size t) }
 
-run_within : (n : ℕ) (o : Outcome) (u : Option Unfinished) → Takes n (length o.rest + o.machine.left) o.entries → IsPending u (length o.rest) → Bounded n (with_run_by o u).entries
-run_within n o (Some (open_run op place run)) h few = by (rule o.machine.work op run) (few_for (suc (length run)) _ _ (rule_adds o.machine.work run op) (omega arith))
+run_within : {n : ℕ} (o : Outcome) (u : Option Unfinished) → Takes n (length o.rest + o.machine.left) o.entries → IsPending u (length o.rest) → Bounded n (with_run_by o u).entries
+run_within {n} o (Some (open_run op place run)) h few = by (rule o.machine.work op run) (few_for (suc (length run)) _ _ (rule_adds o.machine.work run op) (omega arith))
   where
     by : (r : Result RuleResult DrawFault) → AddsFor (suc (length run)) r → Bounded n (with_drawn o place r).entries
-    by (Ok drawn) adds =
-        whole n 0 (o.entries ++ drawn.entries)
-        (takes_both n (length o.rest + o.machine.left) 0 o.entries drawn.entries h (takes_some (length o.rest + o.machine.left) 0 (suc (length run)) drawn.entries adds (omega (arith, few))))
-    by (Err fault) adds = whole n (length o.rest + o.machine.left) o.entries h
-run_within n o _ h few = whole n (length o.rest + o.machine.left) o.entries h
+    by (Ok drawn) adds = takes_both h (takes_some adds (omega (arith, few)))
+    by (Err fault) adds = whole h
+run_within o _ h few = whole h
 
-ended_within : (n place : ℕ) (o : Outcome) (r : Option Refusal) → Bounds n o → Bounded n (ended_by o place r).entries
-ended_within n place o (Some r) h = whole n (length o.rest + o.machine.left) o.entries h.takes
-ended_within n place o None h = end_within n place (with_run o) (with_run o).refusal (run_within n o o.unfinished h.takes h.pending)
+ended_within : {n : ℕ} (place : ℕ) (o : Outcome) (r : Option Refusal) → Bounds n o → Bounded n (ended_by o place r).entries
+ended_within place o (Some r) h = whole h.takes
+ended_within place o None h = end_within place (with_run o) (run_within o o.unfinished h.takes h.pending) (with_run o).refusal
 
 means_few : (budget : ℕ) (p : List ℕ) → Bounded (length p + budget) (means budget p).entries
-means_few budget p = ended_within (length p + budget) (length p) (begun budget p) (begun budget p).refusal (begun_few budget p)
+means_few budget p = ended_within (length p) (begun budget p) (begun budget p).refusal (begun_few budget p)
 
 pub entries_are_bounded : EntriesAreBounded
 entries_are_bounded budget p = omega (arith, (means_few budget p).count)

@@ -1,7 +1,5 @@
-use Rattle.nap_command.proofs.Common.{Action, AnswersAreThoseOfCommands, AnswersPage, AsCheck, AsCommand, Fault, IsAnswer, IsStreamRefusal, LacksWith, List, PrintsBy, Question, RefusesWith, Verdict, [], inl, inr, list_of, page_command, refl, refusal, refused_body_of, text, ℕ, ◌∙◌, ◌≡◌, ◌≢◌}
-use Rattle.nap_command.specs.Answers.{AcceptsWith}
-use Rattle.nap_command.proofs.CodeBounds.{entries_are_bounded, text_is_bounded}
-use Rattle.nap_command.proofs.PlacingLemmas.{places_are_exact}
+use Rattle.nap_command.proofs.{Action, AnswersAreThoseOfCommands, AnswersPage, AsCheck, AsCommand, CodeBounds.entries_are_bounded, CodeBounds.text_is_bounded, Fault, IsAnswer, IsStreamRefusal, LineLemmas.places_are_exact, List, PrintsBy, Question, Verdict, [], inl, inr, list_of, refl, refusal, refused_body_of, text, ℕ, ◌∙◌, ◌≡◌, ◌≢◌}
+use Rattle.nap_command.specs.Answers.{AcceptsWith, LacksWith, RefusesWith, page_command}
 
 -- The answers and the commands.
 

@@ -1,3 +1,2 @@
 -- What proofs of the crates above may cite.
-pub use Rattle.nap_command.proofs.AnswerLemmas.{is_memory}
-pub use Rattle.nap_command.proofs.PlaceLemmas.{still_refused}
+pub use Rattle.nap_command.proofs.{CommandLemmas.is_memory, LineLemmas.still_refused}

@@ -1,4 +1,15 @@
-use Rattle.nap_command.proofs.Common.{Area, Attributes, Base, Bool, CharSet, CharSize, Colour, Components, Coordinates, Displacement, DrawFault, Drawing, Entry, Err, GSet, IfOk, List, None, Ok, Opcode, Option, Pen, Piece, Result, RuleResult, Some, State, TextEnd, TextLook, TextStep, Texture, Two, Work, [], absolute_spans, addr_bytes, addr_size, after, and_then, arc_on, arc_points, area_of, arith, at_least_one, at_most_limit, attributes, base_commands, blink, blinks, char_piece, circle_closed, colour_commands, colour_of, colour_prelude, command_piece, complete_pairs, cons_if_all, control, corner, cut_operands, displaced_point, displacement_bytes, displacements_size, domain_again, domain_in, domain_rule, entries_result, entry_pieces, entry_result, false, first_and_more, flag_commands, from_pen, given_size_commands, gl_of, grb_bytes, grb_size, group, if◌then◌else◌, length, length-append, length-map, line_piece, map, map_rule, mask_commands, move_size, moves, moves_of, multi_of, named_size_commands, nat_lt, opcode, operands, option_and_then, option_map, pel_prelude, pen_point, pen_prelude, pen_result, piece_bytes, pieces, pieces_bytes, point_at, point_bytes, point_entry, point_size, points_at, points_reached, poly_on, poly_points, polyline_spans, prelude, primary, rect_chain_spans, rect_on, refl, relative_spans, rule, rule_result, same_base, same_colour, same_flag, same_move, same_pen, same_size, same_texture, set_color_rule, set_color_under, shape_bytes, shape_from_pen, shape_from_point, shift_to_opcodes, shift_to_primary, span, span_by, span_line_entry, spelling_pieces, step_bytes, steps_limit, suc, text_end_after_piece, text_prelude, texture_prelude, true, unless, with_attributes, with_domain, with_operands, with_pairs, word_byte, words_commands, zero, ℕ, ◌%◌, ◌&&◌, ◌*◌, ◌++◌, ◌+◌, ◌-◌, ◌/◌, ◌<◌, ◌==◌, ◌∷◌, ◌≡◌, ◌≤◌}
+use Rattle.nap_command.proofs.{Bool, Colour, DrawFault, Entry, Err, IfOk, List, None, Ok, Opcode, Option, Pen, Result, RuleResult, Some, State, TextEnd, Two, Work, [], after, arith, attributes, colour_prelude, command_piece, cut_operands, displacement_bytes, entry_pieces, false, if◌then◌else◌, length, length-append, length-map, map, nat_lt, operands, option_and_then, option_map, pel_prelude, pen_prelude, pieces, pieces_bytes, prelude, refl, rule, rule_result, spelling_pieces, suc, texture_prelude, true, with_attributes, zero, ℕ, ◌%◌, ◌&&◌, ◌*◌, ◌++◌, ◌+◌, ◌-◌, ◌/◌, ◌<◌, ◌==◌, ◌∷◌, ◌≡◌, ◌≤◌}
+use Rattle.nap_canon.specs.Commands.{Command}
+use Rattle.nap_canon.proofs.PublicLaws.{addr_size, displacements_size, grb_size, move_size, point_size}
+use Rattle.nap_canon.specs.Names.{Area, Attributes, Base, CharSet, CharSize, Components, Coordinates, Displacement, Drawing, GSet, TextLook, TextStep, Texture, circle_closed, colour_of, moves, multi_of, point_at, point_entry, steps_limit}
+use Rattle.nap_canon.specs.Preludes.{base_commands, colour_commands, flag_commands, given_size_commands, mask_commands, named_size_commands, text_prelude, unless, words_commands}
+use Rattle.nap_canon.specs.Spelling.{Piece, char_piece, control, domain_again, group, line_piece, opcode, primary, shape_bytes, step_bytes, word_byte}
+use Rattle.nap_canon.specs.Text.{gl_of, piece_bytes, shift_to_opcodes, shift_to_primary, text_end_after_piece}
+use Rattle.nap_draw.specs.Geometry.{absolute_spans, arc_points, cons_if_all, points_at, points_reached, poly_points, polyline_spans, rect_chain_spans, relative_spans, span, span_by}
+use Rattle.nap_draw.specs.Names.{corner, displaced_point}
+use Rattle.nap_draw.specs.Rule.{and_then, arc_on, area_of, at_least_one, at_most_limit, blink, blinks, complete_pairs, domain_in, domain_rule, entries_result, entry_result, first_and_more, from_pen, map_rule, moves_of, pen_point, pen_result, poly_on, rect_on, set_color_rule, set_color_under, shape_from_pen, shape_from_point, span_line_entry, with_domain, with_operands, with_pairs}
+use Rattle.nap_values.specs.Spellings.{addr_bytes, grb_bytes, point_bytes}
+use Rattle.nap_canon.specs.Equality.{same_base, same_colour, same_flag, same_move, same_pen, same_size, same_texture}
 
 -- How much an opcode adds.
 
@@ -198,28 +209,28 @@ module _ (work : Work) (run : List ℕ) where
   rule_adds Opcode.Domain = domain_adds run
   rule_adds Opcode.PointSetAbs = operands_add _ (λ ms h. none_added (points_at ms))
   rule_adds Opcode.PointSetRel = pen_adds _ (λ p ms h. none_added (points_reached p ms))
-  rule_adds Opcode.PointAbs = operands_add _ (λ ms h. each_adds point_entry (length ms) (points_at ms) (λ _. refl) h (points_few ms))
-  rule_adds Opcode.PointRel = pen_adds _ (λ p ms h. each_adds point_entry (length ms) (points_reached p ms) (λ _. refl) h (reached_few p ms))
-  rule_adds Opcode.LineAbs = pen_adds _ (λ p ms h. each_adds span_line_entry (length ms) _ (λ _. refl) h (lines_few p ms (points_at ms) (points_few ms)))
-  rule_adds Opcode.LineRel = pen_adds _ (λ p ms h. each_adds span_line_entry (length ms) _ (λ _. refl) h (lines_few p ms (points_reached p ms) (reached_few p ms)))
-  rule_adds Opcode.SetLineAbs = pairs_add _ (λ ms h. each_adds span_line_entry (length ms) (absolute_spans ms) (λ _. refl) h (absolute_few ms))
-  rule_adds Opcode.SetLineRel = pairs_add _ (λ ms h. each_adds span_line_entry (length ms) (relative_spans ms) (λ _. refl) h (relative_few ms))
-  rule_adds Opcode.ArcOutlined = from_pen_adds (arc_on false) arc_points (λ _. refl) arc_few
-  rule_adds Opcode.ArcFilled = from_pen_adds (arc_on true) arc_points (λ _. refl) arc_few
-  rule_adds Opcode.SetArcOutlined = from_point_adds (arc_on false) arc_points (λ _. refl) arc_few
-  rule_adds Opcode.SetArcFilled = from_point_adds (arc_on true) arc_points (λ _. refl) arc_few
-  rule_adds Opcode.RectOutlined = pen_adds _ (λ p ms h. each_adds (rect_on false) (length ms) (rect_chain_spans p ms) (λ _. refl) h (chain_few p ms))
-  rule_adds Opcode.RectFilled = pen_adds _ (λ p ms h. each_adds (rect_on true) (length ms) (rect_chain_spans p ms) (λ _. refl) h (chain_few p ms))
-  rule_adds Opcode.SetRectOutlined = pairs_add _ (λ ms h. each_adds (rect_on false) (length ms) (relative_spans ms) (λ _. refl) h (relative_few ms))
-  rule_adds Opcode.SetRectFilled = pairs_add _ (λ ms h. each_adds (rect_on true) (length ms) (relative_spans ms) (λ _. refl) h (relative_few ms))
-  rule_adds Opcode.PolyOutlined = from_pen_adds (poly_on false) poly_points (λ _. refl) poly_few
-  rule_adds Opcode.PolyFilled = from_pen_adds (poly_on true) poly_points (λ _. refl) poly_few
-  rule_adds Opcode.SetPolyOutlined = from_point_adds (poly_on false) poly_points (λ _. refl) poly_few
-  rule_adds Opcode.SetPolyFilled = from_point_adds (poly_on true) poly_points (λ _. refl) poly_few
+  rule_adds Opcode.PointAbs = operands_add _ (λ ms h. each_adds point_entry _ _ (λ _. refl) h (points_few ms))
+  rule_adds Opcode.PointRel = pen_adds _ (λ p ms h. each_adds point_entry _ _ (λ _. refl) h (reached_few p ms))
+  rule_adds Opcode.LineAbs = pen_adds _ (λ p ms h. each_adds span_line_entry _ _ (λ _. refl) h (lines_few p ms _ (points_few ms)))
+  rule_adds Opcode.LineRel = pen_adds _ (λ p ms h. each_adds span_line_entry _ _ (λ _. refl) h (lines_few p ms _ (reached_few p ms)))
+  rule_adds Opcode.SetLineAbs = pairs_add _ (λ ms h. each_adds span_line_entry _ _ (λ _. refl) h (absolute_few ms))
+  rule_adds Opcode.SetLineRel = pairs_add _ (λ ms h. each_adds span_line_entry _ _ (λ _. refl) h (relative_few ms))
+  rule_adds Opcode.ArcOutlined = from_pen_adds (arc_on false) _ (λ _. refl) arc_few
+  rule_adds Opcode.ArcFilled = from_pen_adds (arc_on true) _ (λ _. refl) arc_few
+  rule_adds Opcode.SetArcOutlined = from_point_adds (arc_on false) _ (λ _. refl) arc_few
+  rule_adds Opcode.SetArcFilled = from_point_adds (arc_on true) _ (λ _. refl) arc_few
+  rule_adds Opcode.RectOutlined = pen_adds _ (λ p ms h. each_adds (rect_on false) _ _ (λ _. refl) h (chain_few p ms))
+  rule_adds Opcode.RectFilled = pen_adds _ (λ p ms h. each_adds (rect_on true) _ _ (λ _. refl) h (chain_few p ms))
+  rule_adds Opcode.SetRectOutlined = pairs_add _ (λ ms h. each_adds (rect_on false) _ _ (λ _. refl) h (relative_few ms))
+  rule_adds Opcode.SetRectFilled = pairs_add _ (λ ms h. each_adds (rect_on true) _ _ (λ _. refl) h (relative_few ms))
+  rule_adds Opcode.PolyOutlined = from_pen_adds (poly_on false) _ (λ _. refl) poly_few
+  rule_adds Opcode.PolyFilled = from_pen_adds (poly_on true) _ (λ _. refl) poly_few
+  rule_adds Opcode.SetPolyOutlined = from_point_adds (poly_on false) _ (λ _. refl) poly_few
+  rule_adds Opcode.SetPolyFilled = from_point_adds (poly_on true) _ (λ _. refl) poly_few
   rule_adds Opcode.Field = after_any most (area_of work (moves_of work run)) _ (λ area. omega arith)
   rule_adds Opcode.SetColor = set_color_adds (operands work.domain.multi run)
   rule_adds Opcode.Wait = omega (arith, each_weighs Entry.Wait run (λ _. refl))
-  rule_adds Opcode.Blink = blinks_add work.domain.single (operands (work.domain.single + 3) run) (operands_few (work.domain.single + 3) run)
+  rule_adds Opcode.Blink = blinks_add _ _ (operands_few (work.domain.single + 3) run)
   rule_adds _ = omega arith
 
 -- How many bytes the canonical text of an entry takes at most.
@@ -257,70 +268,74 @@ unfolding pieces_bytes
 pieces_few t [] = omega arith
 pieces_few t (p ∷ ps) = omega (arith, length-append (piece_bytes t p) (pieces_bytes (text_end_after_piece t p) ps), piece_few t p, pieces_few (text_end_after_piece t p) ps)
 
--- the commands of a prelude
+-- The commands of a prelude.
+
+-- the pieces of commands cost at most n
+abbrev pub Costs : ℕ → List Command → Type 0
+Costs n cs = cost (map command_piece cs) ≤ n
 
 -- commands after others
-both_few : (m n : ℕ) (cs ds : List _) → cost (map command_piece cs) ≤ m → cost (map command_piece ds) ≤ n → cost (map command_piece (cs ++ ds)) ≤ m + n
+both_few : (m n : ℕ) (cs ds : List Command) → Costs m cs → Costs n ds → Costs (m + n) (cs ++ ds)
 both_few m n [] ds h k = omega (arith, k)
 both_few m n (c ∷ cs) ds h k = omega (arith, both_few (cost (map command_piece cs)) n cs ds (omega arith) k, h)
 
-either_few : (n : ℕ) (b : Bool) (cs ds : List _) → cost (map command_piece cs) ≤ n → cost (map command_piece ds) ≤ n → cost (map command_piece (if b then cs else ds)) ≤ n
+either_few : (n : ℕ) (b : Bool) (cs ds : List Command) → Costs n cs → Costs n ds → Costs n (if b then cs else ds)
 either_few n true cs ds h k = h
 either_few n false cs ds h k = k
 
-unless_few : (n : ℕ) (same : Bool) (cs : List _) → cost (map command_piece cs) ≤ n → cost (map command_piece (unless same cs)) ≤ n
+unless_few : (n : ℕ) (same : Bool) (cs : List Command) → Costs n cs → Costs n (unless same cs)
 unless_few n same cs h = either_few n same [] cs (omega arith) h
 
-pen_few : (old : Pen) (wanted : Option Pen) → cost (map command_piece (pen_prelude old wanted)) ≤ 10
+pen_few : (old : Pen) (wanted : Option Pen) → Costs 10 (pen_prelude old wanted)
 unfolding pen_prelude
 pen_few old None = omega arith
 pen_few old (Some (Pen.At p)) = unless_few 10 (same_pen old (Pen.At p)) _ (omega (arith, point_size p))
 pen_few old (Some pen) = unless_few 10 (same_pen old pen) _ (omega arith)
 
-pel_few : (old : Displacement) (wanted : Option Displacement) → cost (map command_piece (pel_prelude old wanted)) ≤ 11
+pel_few : (old : Displacement) (wanted : Option Displacement) → Costs 11 (pel_prelude old wanted)
 unfolding pel_prelude
 pel_few old None = omega arith
 pel_few old (Some m) = unless_few 11 (same_move old m) _ (omega (arith, move_size m))
 
-base_few : (old : Colour) → cost (map command_piece (base_commands old)) ≤ 2
+base_few : (old : Colour) → Costs 2 (base_commands old)
 base_few old = grind arith
 
-colour_commands_few : (base : Base) (old colour : Colour) → cost (map command_piece (colour_commands base old colour)) ≤ 12
+colour_commands_few : (base : Base) (old colour : Colour) → Costs 12 (colour_commands base old colour)
 colour_commands_few base old (Colour.Direct grb) = both_few 2 10 (base_commands old) _ (base_few old) (unless_few 10 (same_base base (Base.Direct grb)) _ (omega (arith, grb_size grb)))
 colour_commands_few base old (Colour.Front a) = omega (arith, addr_size a)
 colour_commands_few base old (Colour.Pair a b) = omega (arith, length-append (addr_bytes a) (addr_bytes b), addr_size a, addr_size b)
 colour_commands_few base old _ = omega arith
 
-colour_prelude_few : (base : Base) (old : Colour) (wanted : Option Colour) → cost (map command_piece (colour_prelude base old wanted)) ≤ 12
+colour_prelude_few : (base : Base) (old : Colour) (wanted : Option Colour) → Costs 12 (colour_prelude base old wanted)
 unfolding colour_prelude
 colour_prelude_few base old None = omega arith
 colour_prelude_few base old (Some colour) = unless_few 12 (same_colour old colour) (colour_commands base old colour) (colour_commands_few base old colour)
 
-mask_few : (word : ℕ) (old wanted : Option Displacement) → cost (map command_piece (mask_commands word old wanted)) ≤ 11
+mask_few : (word : ℕ) (old wanted : Option Displacement) → Costs 11 (mask_commands word old wanted)
 mask_few word (Some old) (Some m) = either_few 11 (same_move old m) _ _ (omega arith) (omega (arith, move_size m))
 mask_few word None (Some m) = omega (arith, move_size m)
 mask_few word old None = omega arith
 
-texture_few : (old : Texture) (wanted : Option Texture) → cost (map command_piece (texture_prelude old wanted)) ≤ 11
+texture_few : (old : Texture) (wanted : Option Texture) → Costs 11 (texture_prelude old wanted)
 unfolding texture_prelude
 texture_few old None = omega arith
 texture_few old (Some t) = unless_few 11 (same_texture old t) _ (mask_few t.word old.mask t.mask)
 
-words_few : (old t : TextLook) → cost (map command_piece (words_commands old t)) ≤ 12
+words_few : (old t : TextLook) → Costs 12 (words_commands old t)
 words_few old t = unless_few 12 (old.first == t.first && old.second == t.second) _ (omega arith)
 
-given_few : (old t : TextLook) (size : CharSize) → cost (map command_piece (given_size_commands old t size)) ≤ 12
+given_few : (old t : TextLook) (size : CharSize) → Costs 12 (given_size_commands old t size)
 given_few old t (CharSize.Named size) = words_few old t
 given_few old t (CharSize.Given m) = either_few 12 (same_size old.size (CharSize.Given m)) _ _ (words_few old t) (omega (arith, move_size m))
 
-named_few : (old size : CharSize) → cost (map command_piece (named_size_commands old size)) ≤ 2
+named_few : (old size : CharSize) → Costs 2 (named_size_commands old size)
 named_few old (CharSize.Given m) = omega arith
 named_few old (CharSize.Named size) = unless_few 2 (same_size old (CharSize.Named size)) _ (omega arith)
 
-flag_few : (f : _) (old on : Bool) → cost (map command_piece (flag_commands f old on)) ≤ 2
+flag_few : (f : _) (old on : Bool) → Costs 2 (flag_commands f old on)
 flag_few f old on = unless_few 2 (same_flag old on) _ (omega arith)
 
-look_few : (old : TextLook) (wanted : Option TextLook) → cost (map command_piece (text_prelude old wanted)) ≤ 22
+look_few : (old : TextLook) (wanted : Option TextLook) → Costs 22 (text_prelude old wanted)
 unfolding text_prelude
 look_few old None = omega arith
 look_few old (Some t) =
@@ -330,7 +345,7 @@ look_few old (Some t) =
     (both_few 2 4 _ _ (flag_few _ old.underline t.underline)
     (both_few 2 2 _ _ (flag_few _ old.wrap t.wrap) (flag_few _ old.scroll t.scroll)))))
 
-pub prelude_few : (d : Drawing) (h : Attributes) → cost (map command_piece (prelude d h)) ≤ 66
+pub prelude_few : (d : Drawing) (h : Attributes) → Costs 66 (prelude d h)
 unfolding prelude
 prelude_few d h =
     both_few 10 56 (pen_prelude d.pen h.pen) _ (pen_few d.pen h.pen)

@@ -1,6 +1,124 @@
-use Rattle.nap_draw.proofs.Common.{All, All-append, All-cons, All-drop, All-head, All-map, All-nil, All-tail, All-take, All-weaker, AllInRange, Area, AreaInRange, Base, BaseInRange, Bool, CharSize, CodeValuesAreInRange, Colour, ColourInRange, Components, Coordinates, Displacement, DrawFault, Drawing, DrawingInRange, DrawnValuesAreInRange, Entry, Err, HandInRange, HasSixteenBitParts, IfOk, IfSome, InRange, InkInRange, IsAddress, IsByte, IsCode, IsInRange, IsInSquare, IsMade, IsWord, LastChar, List, None, Ok, Opcode, OpenDefinition, Option, Pen, PenInRange, Result, RuleResult, SizeInRange, Some, Span, State, StateInRange, StepInRange, StepMade, TextInRange, TextLook, TextStep, Work, [], absolute_spans, addresses, after, and_then, arc_on, arc_points, area_of, area_part, arith, blink, blink_rule, blinks, char_on, circle_closed, code_rule, colour_of, colour_of_base, cond_both, cons_if_all, corner, cut_operands, definition_ended_by, definition_result, displaced_point, displacements_are_unique, domain_in, domain_rule, drop, entries_result, entry_result, eqb, false, field_on, field_rule, first_move, from_pen, hand_of, ink_of, is_known, last_or, look_result, map, map_rule, moves, moves_of, multi_of, ok_or, operands, option_and_then, option_map, option_or, pen_point, pen_result, point_at, point_entry, points_are_inside, points_at, points_reached, poly_on, poly_points, polyline_spans, rect_chain_spans, rect_on, refl, relative_spans, repeated_chars, rule, rule_result, select_rule, selected_colour, set_color_rule, set_color_under, shape_from_pen, shape_from_point, single_of, slice_get, slice_index, span, span_by, span_line_entry, subst, suc, take, text_rule, texture_rule, true, unwrap_or, values_are_in_range, walk, with_drawing, with_last, zero, ℕ, ◌++◌, ◌+◌, ◌-◌, ◌/◌, ◌∷◌, ◌≡◌}
-use Rattle.nap_draw.proofs.WalkRanges.{after_ranged, at_ranged, setting_ranged, unwrap_ranged, walk_ranged, with_colour_ranged, with_pen_at_ranged}
-use Rattle.nap_codes.specs.declared.code.Code.{Code}
+use Rattle.nap_draw.proofs.{All, All-append, All-cons, All-drop, All-filter, All-head, All-map, All-nil, All-tail, All-take, All-weaker, AllInRange, Area, AreaInRange, Attributes, Base, BaseInRange, Bool, CharSize, Code, CodeValuesAreInRange, Colour, ColourInRange, Common.operands, Components, Coordinates, Displacement, DrawFault, Drawing, DrawingInRange, DrawnValuesAreInRange, Entry, Err, Hand, HandInRange, HasSixteenBitParts, IfOk, IfSome, InRange, Ink, InkInRange, IsAddress, IsByte, IsCode, IsInRange, IsInSquare, IsMade, IsWord, LastChar, List, MapColour, MapColourInRange, None, Ok, Opcode, OpenDefinition, OpenedInRange, Option, Outcome, Outside, Pen, PenInRange, Result, SizeInRange, Some, Span, State, StateInRange, StepInRange, StepMade, TextInRange, TextLook, TextStep, TextureInRange, Work, [], absolute_spans, addresses, after, and_then, arc_on, arc_points, area_of, area_part, arith, attributes, base_after, blink, blink_rule, blinks, char_on, circle_closed, code_rule, colour_code, colour_of, colour_of_base, cond_both, cons_if_all, corner, cut_operands, definition_after, definition_ended_by, definition_result, displaced_point, displacements_are_unique, domain_in, domain_rule, drop, effect_on_drawing, entries_result, entry_result, eqb, false, field_on, field_rule, first_move, from_pen, hand_of, ink_of, is_known, known_after, last_after, last_or, length, look_result, map, map_rule, moves, moves_of, multi_of, ok_or, option_and_then, option_map, option_or, pen_point, pen_result, point_at, point_entry, points_are_inside, points_at, points_reached, poly_on, poly_points, polyline_spans, rect_chain_spans, rect_on, refl, relative_spans, repeated_chars, reset, restored_drawing, rule, rule_result, select_rule, selected_colour, set_color_rule, set_color_under, shape_from_pen, shape_from_point, single_of, slice_get, slice_index, span, span_by, span_line_entry, start_drawing, start_text, start_texture, subst, suc, take, text_rule, texture_rule, true, unwrap_or, values_are_in_range, walk, with_attributes, with_colour, with_drawing, with_known_colour, with_last, with_pen, with_pen_at, without_address, zero, ℕ, ◌%◌, ◌++◌, ◌+◌, ◌-◌, ◌/◌, ◌∷◌, ◌≡◌}
+
+-- A walk over entries in range, from a state in range, leads to a state in range.
+
+-- the attributes at the start
+
+pub start_texture_ranged : TextureInRange start_texture
+start_texture_ranged = record { word = omega arith; mask = tt }
+
+pub start_text_ranged : TextInRange start_text
+start_text_ranged = record { first = omega arith; second = omega arith; size = tt }
+
+pub start_drawing_ranged : DrawingInRange start_drawing
+start_drawing_ranged = grind (arith, start_texture_ranged, start_text_ranged)
+
+-- the attributes that an entry holds
+
+record AttributesInRange (h : Attributes) : Type 0 where
+  pub pen : IfSome h.pen PenInRange
+  pub pel : IfSome h.pel IsInRange
+  pub colour : IfSome h.colour ColourInRange
+  pub texture : IfSome h.texture TextureInRange
+  pub text : IfSome h.text TextInRange
+
+attributes_ranged : (e : Entry) → InRange e → AttributesInRange (attributes e)
+attributes_ranged e r = grind arith
+
+-- they become current
+
+pub unwrap_ranged : {A : Type 0} (P : A → Type 0) (o : Option A) (x : A) → IfSome o P → P x → P (unwrap_or o x)
+unwrap_ranged P o x h h2 = grind arith
+
+base_ranged : (base : Base) (colour : Option Colour) → BaseInRange base → IfSome colour ColourInRange → BaseInRange (base_after base colour)
+base_ranged base colour h h2 = grind arith
+
+taking_ranged : (d : Drawing) (h : Attributes) → DrawingInRange d → AttributesInRange h → DrawingInRange (with_attributes d h)
+taking_ranged d h r taken = grind (arith, unwrap_ranged, base_ranged)
+
+-- the effects of entries
+
+pub with_pen_ranged : (pen : Pen) (d : Drawing) → PenInRange pen → DrawingInRange d → DrawingInRange (with_pen pen d)
+with_pen_ranged pen d there r = record { pen = there; pel = r.pel; base = r.base; colour = r.colour; texture = r.texture; text = r.text }
+
+pub with_pen_at_ranged : (o : Option Coordinates) (d : Drawing) → IfSome o IsInSquare → DrawingInRange d → DrawingInRange (with_pen_at o d)
+with_pen_at_ranged o d h h2 = grind (arith, with_pen_ranged)
+
+pub with_colour_ranged : (colour : Colour) (d : Drawing) → ColourInRange colour → DrawingInRange d → DrawingInRange (with_colour colour d)
+with_colour_ranged colour d new r = record { pen = r.pen; pel = r.pel; base = r.base; colour = new; texture = r.texture; text = r.text }
+
+pub at_ranged : {A : Type 0} (P : A → Type 0) (xs : List A) (i : ℕ) → All P xs → IfSome (slice_get xs i) P
+at_ranged P [] i all = tt
+at_ranged P (x ∷ xs) zero all = All-head P x xs all
+at_ranged P (x ∷ xs) (suc i) all = at_ranged P xs i (All-tail P x xs all)
+
+reset_ranged : (first second : ℕ) (d : Drawing) → DrawingInRange d → DrawingInRange (reset first second d)
+reset_ranged first second d r = record {
+  pen = tt;
+  pel = cond_both (eqb (first % 2) 1) _ _ IsInRange (λ _. start_drawing_ranged.pel) (λ _. r.pel);
+  base = cond_both (eqb (colour_code first) 1) _ _ BaseInRange (λ _. tt) (λ _. r.base);
+  colour =
+      cond_both (eqb (colour_code first) 1) _ _ ColourInRange (λ _. tt) (λ _.
+      cond_both (eqb (colour_code first) 2) _ _ ColourInRange (λ _. tt) (λ _.
+      cond_both (eqb (colour_code first) 3) _ _ ColourInRange (λ _. tt) (λ _. r.colour)));
+  texture = cond_both (eqb (second / 8 % 2) 1) _ _ TextureInRange (λ _. start_texture_ranged) (λ _. r.texture);
+  text = cond_both (eqb (second % 2) 1) _ _ TextInRange (λ _. start_text_ranged) (λ _. r.text);
+}
+
+saved_ranged : (o : Option OpenDefinition) (d : Drawing) → IfSome o OpenedInRange → DrawingInRange d → DrawingInRange (restored_drawing o d)
+saved_ranged o d h h2 = grind arith
+
+drawn_ranged : (o : Option OpenDefinition) (d : Drawing) (e : Entry) → IfSome o OpenedInRange → DrawingInRange d → InRange e → DrawingInRange (effect_on_drawing o d e)
+drawn_ranged o d (Entry.Point at pel colour) saved r new = with_pen_ranged (Pen.At at) d new.0 r
+drawn_ranged o d (Entry.Line from to ink) saved r new = with_pen_ranged (Pen.At to) d new.1 r
+drawn_ranged o d (Entry.Arc filled points ink) saved r new =
+    with_pen_at_ranged (slice_get points (length points - 1)) d (at_ranged IsInSquare points (length points - 1) new.0) r
+drawn_ranged o d (Entry.Rect filled from to ink) saved r new = with_pen_ranged (Pen.At (corner from to)) d (new.1.0, new.0.1) r
+drawn_ranged o d (Entry.Poly filled points ink) saved r new = with_pen_at_ranged (slice_get points 0) d (at_ranged IsInSquare points 0 new.0) r
+drawn_ranged o d (Entry.Char set code hand) saved r new = with_pen_ranged Pen.After d tt r
+drawn_ranged o d (Entry.TextMove step hand) saved r new = with_pen_ranged Pen.After d tt r
+drawn_ranged o d (Entry.ToEol hand) saved r new = with_pen_ranged Pen.After d tt r
+drawn_ranged o d (Entry.Clear pen) saved r new = with_pen_ranged Pen.After d tt r
+drawn_ranged o d (Entry.Field area pen) saved r new = with_pen_ranged Pen.After d tt r
+drawn_ranged o d (Entry.Reset first second pen) saved r new = reset_ranged first second d r
+drawn_ranged o d (Entry.Map addr grb) saved r new = with_colour_ranged (Colour.Front addr) d new.0 r
+drawn_ranged o d (Entry.GlyphStart code) saved r new = with_pen_ranged Pen.Start d tt r
+drawn_ranged o d (Entry.MaskStart mask) saved r new = with_pen_ranged Pen.Start d tt r
+drawn_ranged o d Entry.DefEnd saved r new = saved_ranged o d saved r
+drawn_ranged o d _ saved r new = r
+
+definition_ranged : (o : Option OpenDefinition) (d : Drawing) (e : Entry) → IfSome o OpenedInRange → DrawingInRange d → InRange e → IfSome (definition_after o d e) OpenedInRange
+definition_ranged o d e h h2 h3 = grind arith
+
+last_code_ranged : (e : Entry) → InRange e → IfSome (last_after e) (λ (last : LastChar). IsByte last.code)
+last_code_ranged e h = grind arith
+
+pub setting_ranged : (addr : ℕ) (grb : Components) (known : List MapColour) → IsAddress addr → HasSixteenBitParts grb → All MapColourInRange known →
+    All MapColourInRange (with_known_colour addr grb known)
+setting_ranged addr grb known there parts all =
+    All-cons MapColourInRange (record { addr = addr; grb = grb }) (take 15 (without_address addr known)) (there, parts)
+    (All-take MapColourInRange 15 (without_address addr known) (All-filter _ MapColourInRange known all))
+
+known_ranged : (known : List MapColour) (e : Entry) → InRange e → All MapColourInRange known → All MapColourInRange (known_after known e)
+known_ranged known (Entry.Map addr grb) new all = setting_ranged addr grb known new.0 new.1 all
+known_ranged known (Entry.Reset first second pen) new all =
+    cond_both (eqb (colour_code first) 0) _ _ (All MapColourInRange) (λ _. all) (λ _. All-nil MapColourInRange)
+known_ranged known _ new all = all
+
+pub after_ranged : (s : State) (e : Entry) → StateInRange s → InRange e → StateInRange (after s e)
+after_ranged s e r new =
+    let taken = taking_ranged s.drawing (attributes e) r.drawing (attributes_ranged e new) in
+    record {
+      drawing = drawn_ranged s.definition (with_attributes s.drawing (attributes e)) e r.definition taken new;
+      definition = definition_ranged s.definition (with_attributes s.drawing (attributes e)) e r.definition taken new;
+      last = last_code_ranged e new;
+      known = known_ranged s.known e new r.known;
+    }
+
+pub walk_ranged : (s : State) (es : List Entry) → StateInRange s → AllInRange es → StateInRange (walk s es)
+unfolding walk
+walk_ranged s [] r all = r
+walk_ranged s (e ∷ es) r all = walk_ranged (after s e) es (after_ranged s e r (All-head InRange e es all)) (All-tail InRange e es all)
 
 -- The results of rules are in range.
 
@@ -129,15 +247,15 @@ end_ranged o (p ∷ ps) from all = end_ranged (Some p) ps (All-head IsInSquare p
 
 -- the results of rules
 
-abbrev pub Ranged : Result RuleResult DrawFault → Type 0
+abbrev pub Ranged : Outcome → Type 0
 Ranged by = IfOk by (λ d. AllInRange d.entries × StateInRange d.work.state)
 
-each_ranged : {A : Type 0} (P : A → Type 0) (by : Result A DrawFault) (next : A → Result RuleResult DrawFault) → IfOk by P → ((x : A) → P x → Ranged (next x)) →
+each_ranged : {A : Type 0} (P : A → Type 0) (by : Result A DrawFault) (next : A → Outcome) → IfOk by P → ((x : A) → P x → Ranged (next x)) →
     Ranged (and_then by next)
 each_ranged P (Ok x) next all each = each x all
 each_ranged P (Err fault) next all each = tt
 
-any_ranged : {A : Type 0} (by : Result A DrawFault) (next : A → Result RuleResult DrawFault) → ((x : A) → Ranged (next x)) → Ranged (and_then by next)
+any_ranged : {A : Type 0} (by : Result A DrawFault) (next : A → Outcome) → ((x : A) → Ranged (next x)) → Ranged (and_then by next)
 any_ranged (Ok x) next each = each x
 any_ranged (Err fault) next each = tt
 
@@ -151,6 +269,10 @@ ink_ranged d r = record { pel = r.pel; colour = r.colour; texture = r.texture }
 pub silent_ranged : (work : Work) (d : Drawing) → StateInRange work.state → DrawingInRange d → Ranged (Ok (rule_result (with_drawing work d) []))
 unfolding walk
 silent_ranged work d r new = (All-nil InRange, record { drawing = new; definition = r.definition; last = r.last; known = r.known })
+
+-- so do the text's attributes
+looks_ranged : (work : Work) (r : StateInRange work.state) (look : TextLook) → TextInRange look → Ranged (look_result work look)
+looks_ranged work r look text = grind (arith, silent_ranged)
 
 module _ (work : Work) (r : StateInRange work.state) where
   pub list_ranged : (es : List Entry) → AllInRange es → Ranged (Ok (rule_result work es))
@@ -183,10 +305,10 @@ module _ (work : Work) (r : StateInRange work.state) where
 
   -- the kinds of operands
 
-  pen_ranged : (f : Coordinates → Result RuleResult DrawFault) → ((p : Coordinates) → IsInSquare p → Ranged (f p)) → Ranged (and_then (pen_point work.state.drawing.pen) f)
+  pen_ranged : (f : Coordinates → Outcome) → ((p : Coordinates) → IsInSquare p → Ranged (f p)) → Ranged (and_then (pen_point work.state.drawing.pen) f)
   pen_ranged f each = each_ranged IsInSquare (pen_point work.state.drawing.pen) f (pen_point_ranged work.state.drawing.pen r.drawing.pen) each
 
-  from_pen_ranged : (run : List ℕ) (f : Coordinates → List Displacement → Result RuleResult DrawFault) →
+  from_pen_ranged : (run : List ℕ) (f : Coordinates → List Displacement → Outcome) →
       ((p : Coordinates) (ms : List Displacement) → IsInSquare p → Ranged (f p ms)) → Ranged (from_pen work run f)
   from_pen_ranged run f each = grind (arith, any_ranged, pen_ranged)
 
@@ -231,7 +353,7 @@ module _ (work : Work) (r : StateInRange work.state) where
   area_ranged : (o : Option Coordinates) (m : Displacement) → IfSome o IsInSquare → IfOk (area_part o m) AreaInRange
   area_ranged o m from = at (span_by o m) (span_by_ranged o m from)
     where
-      at : (s : Option Span) → IfSome s SpanInRange → IfOk (ok_or (option_map (λ s. Area.Part s.from s.to) s) DrawFault.Outside) AreaInRange
+      at : (s : Option Span) → IfSome s SpanInRange → IfOk (ok_or (option_map (λ s. Area.Part s.from s.to) s) Outside) AreaInRange
       at None there = tt
       at (Some s) there = there
 
@@ -255,17 +377,10 @@ module _ (work : Work) (r : StateInRange work.state) where
   text_ranged : (run : List ℕ) → All IsWord run → Ranged (text_rule work run)
   text_ranged run all =
       let look = work.state.drawing.text in
-      silent_ranged work _ r (record {
-        pen = r.drawing.pen;
-        pel = r.drawing.pel;
-        base = r.drawing.base;
-        colour = r.drawing.colour;
-        texture = r.drawing.texture;
-        text = record {
-          first = unwrap_ranged IsWord (slice_get run 0) look.first (at_ranged IsWord run 0 all) r.drawing.text.first;
-          second = unwrap_ranged IsWord (slice_get run 1) look.second (at_ranged IsWord run 1 all) r.drawing.text.second;
-          size = size_ranged (first_move work (drop 2 run)) look.size (first_move_ranged work.domain.multi (drop 2 run) (All-drop IsWord 2 run all)) r.drawing.text.size;
-        };
+      looks_ranged work r _ (record {
+        first = unwrap_ranged IsWord (slice_get run 0) look.first (at_ranged IsWord run 0 all) r.drawing.text.first;
+        second = unwrap_ranged IsWord (slice_get run 1) look.second (at_ranged IsWord run 1 all) r.drawing.text.second;
+        size = size_ranged (first_move work (drop 2 run)) look.size (first_move_ranged work.domain.multi (drop 2 run) (All-drop IsWord 2 run all)) r.drawing.text.size;
       })
 
   mask_ranged : (new old : Option Displacement) → IfSome new IsInRange → IfSome old IsInRange → IfSome (option_or new old) IsInRange
@@ -396,16 +511,13 @@ copies_ranged s last (suc n) r code =
     All-cons InRange e (repeated_chars (after s e) last n) here (copies_ranged (after s e) last n (after_ranged s e r here) code)
 
 module _ (work : Work) (r : StateInRange work.state) where
-  looks_ranged : (look : TextLook) → TextInRange look → Ranged (look_result work look)
-  looks_ranged look text = grind (arith, silent_ranged)
-
-  last_ranged : (o : Option LastChar) (next : LastChar → Result RuleResult DrawFault) → IfSome o (λ last. IsByte last.code) → ((last : LastChar) → IsByte last.code → Ranged (next last)) →
+  last_ranged : (o : Option LastChar) (next : LastChar → Outcome) → IfSome o (λ last. IsByte last.code) → ((last : LastChar) → IsByte last.code → Ranged (next last)) →
       Ranged (with_last o next)
   last_ranged None next code each = tt
   last_ranged (Some last) next code each = each last code
 
   flags_ranged : (reverse underline wrap scroll : Bool) → Ranged (look_result work (record work.state.drawing.text { reverse = reverse; underline = underline; wrap = wrap; scroll = scroll }))
-  flags_ranged reverse underline wrap scroll = looks_ranged _ (record { first = r.drawing.text.first; second = r.drawing.text.second; size = r.drawing.text.size })
+  flags_ranged reverse underline wrap scroll = looks_ranged work r _ (record { first = r.drawing.text.first; second = r.drawing.text.second; size = r.drawing.text.size })
 
   ended_ranged : (o : Option OpenDefinition) → Ranged (Ok (definition_ended_by work o))
   ended_ranged o = grind (arith, list_ranged, All-nil, one_ranged)
@@ -422,7 +534,7 @@ module _ (work : Work) (r : StateInRange work.state) where
   code_ranged Code.ToEol made = last_ranged work.state.last _ r.last (λ last code. one_ranged work r (Entry.ToEol (hand_of work.state.drawing)) (hand_ranged work.state r))
   code_ranged (Code.BlinkMark on) made = one_ranged work r (Entry.BlinkMark on work.state.drawing.colour) r.drawing.colour
   code_ranged (Code.Cursor kind) made = one_ranged work r (Entry.Cursor kind) tt
-  code_ranged (Code.Named size) made = looks_ranged _ (record { first = r.drawing.text.first; second = r.drawing.text.second; size = tt })
+  code_ranged (Code.Named size) made = looks_ranged work r _ (record { first = r.drawing.text.first; second = r.drawing.text.second; size = tt })
   code_ranged (Code.Reverse on) made = let look = work.state.drawing.text in flags_ranged on look.underline look.wrap look.scroll
   code_ranged (Code.Underline on) made = let look = work.state.drawing.text in flags_ranged look.reverse on look.wrap look.scroll
   code_ranged (Code.Wrap on) made = let look = work.state.drawing.text in flags_ranged look.reverse look.underline on look.scroll

@@ -1,6 +1,4 @@
+unfoldable pub use Common.*
 mod Common
-pub mod BatchLemmas
-pub mod BlockLemmas
-pub mod KeptLemmas
+pub mod WritingLemmas
 pub mod PrintLemmas
-pub mod ShapeLemmas

@@ -1,8 +1,6 @@
+unfoldable pub use Common.*
 mod Common
-pub mod Agreement
 pub mod Breaks
 pub mod PublicLaws
-mod KnownRows
 pub mod KnownLemmas
-pub mod WrittenLemmas
 pub mod Batches

@@ -1,6 +1,6 @@
 -- Characters after text, one after another, and their lines.
 
-use Rattle.nap_make.proofs.Common.{All, All-head, All-map, All-tail, All-weaker, AllFit, CharLine, CharSet, Colour, ColourFits, Drawing, Entry, Fits, FollowsChar, Hand, IsCode, IsProper, List, None, Option, Pen, Some, State, TextStep, [], after, ap, append_assoc, arith, base_after, code_line, code_lines, code_text, drop, flat_map_more, format_effector, format_effector_front, hand_of, length, line, lines, map, refl, subst, sym, take, text_entries, text_entries_in, text_entry_as, text_leaves, walk, ℕ, ◌++◌, ◌∙◌, ◌∷◌, ◌≡◌, ◌≢◌}
+use Rattle.nap_make.proofs.{All, All-head, All-map, All-tail, All-weaker, AllFit, CharLine, CharSet, Colour, ColourFits, Drawing, Entry, Fits, FollowsChar, Hand, IsCode, IsProper, List, None, Pen, Some, State, [], after, ap, append_assoc, arith, base_after, code_line, code_lines, code_text, drop, flat_map_more, format_effector, format_effector_front, hand_of, length, line, Common.lines, map, refl, subst, sym, take, text_entries, text_entries_in, text_entry_as, text_leaves, walk, ℕ, ◌++◌, ◌∙◌, ◌∷◌, ◌≡◌, ◌≢◌}
 
 -- the attributes of a character after text
 abbrev pub text_hand : Drawing → Hand
@@ -55,18 +55,18 @@ module _ (set : CharSet) (d : Drawing) where
   lines_of_chars : (l : CharLine) (codes : List ℕ) → ((code : ℕ) → line (char code) ≡ l.front.now ++ (code_text code ++ l.back.now)) → lines (map char codes) ≡ code_lines l codes
   lines_of_chars l [] parts = refl
   lines_of_chars l (code ∷ codes) parts =
-      ap (λ (xs : List ℕ). (xs ++ 10 ∷ []) ++ lines (map char codes)) (parts code)
-      ∙ ap (λ (xs : List ℕ). xs ++ lines (map char codes)) (append_assoc l.front.now (code_text code ++ l.back.now) (10 ∷ []))
-      ∙ ap (λ (xs : List ℕ). code_line l code ++ xs) (lines_of_chars l codes parts)
+      ap (λ xs. (xs ++ 10 ∷ []) ++ lines (map char codes)) (parts code)
+      ∙ ap (◌++ lines (map char codes)) (append_assoc l.front.now (code_text code ++ l.back.now) (10 ∷ []))
+      ∙ ap (code_line l code ++◌) (lines_of_chars l codes parts)
 
 -- After a character.
 
-module _ (l : CharLine) (s : State) (follows : FollowsChar l s) where
+module _ {l : CharLine} {s : State} (follows : FollowsChar l s) where
   its_hand : follows.line_is.hand ≡ text_hand s.drawing
   its_hand = grind arith
 
   its_entry : follows.entry ≡ char l.set s.drawing follows.line_is.code
-  its_entry = follows.line_is.entry_is ∙ ap (λ (hand : Hand). Entry.Char l.set follows.line_is.code hand) its_hand
+  its_entry = follows.line_is.entry_is ∙ ap (Entry.Char l.set follows.line_is.code) its_hand
 
   its_fit : Fits follows.before (char l.set s.drawing follows.line_is.code)
   its_fit = subst (Fits follows.before) its_entry follows.fits
@@ -78,7 +78,7 @@ module _ (l : CharLine) (s : State) (follows : FollowsChar l s) where
   text_fits codes all = grind (arith, chars_are, its_state, chars_fit, its_fit)
 
   pub last_fits : (code : ℕ) → IsCode code → Fits s (char l.set s.drawing code)
-  last_fits code is_code = subst (λ (t : State). Fits t (char l.set s.drawing code)) its_state (next_fits l.set s.drawing follows.before follows.line_is.code code its_fit is_code)
+  last_fits code is_code = subst (λ t. Fits t (char l.set s.drawing code)) its_state (next_fits l.set s.drawing follows.before follows.line_is.code code its_fit is_code)
 
   pub text_proper : (codes : List ℕ) → All IsCode codes → All IsProper (text_entries s.drawing Pen.After l.set codes)
   text_proper codes all =
@@ -89,7 +89,7 @@ module _ (l : CharLine) (s : State) (follows : FollowsChar l s) where
   text_unended codes all = subst (All (λ e. e ≢ Entry.DefEnd)) (sym (chars_are l.set s.drawing codes all)) (chars_unended l.set s.drawing codes all)
 
   pub text_defines : (codes : List ℕ) → All IsCode codes → (walk s (text_entries s.drawing Pen.After l.set codes)).definition ≡ s.definition
-  text_defines codes all = ap (λ (es : List Entry). (walk s es).definition) (chars_are l.set s.drawing codes all) ∙ chars_define l.set s.drawing s codes
+  text_defines codes all = ap (λ es. (walk s es).definition) (chars_are l.set s.drawing codes all) ∙ chars_define l.set s.drawing s codes
 
   pub text_lines : (codes : List ℕ) → All IsCode codes → lines (text_entries s.drawing Pen.After l.set codes) ≡ code_lines l codes
   text_lines codes all = grind (arith, chars_are, lines_of_chars, its_hand)
@@ -97,7 +97,7 @@ module _ (l : CharLine) (s : State) (follows : FollowsChar l s) where
   -- the state after a text is that after its last character
   pub text_left : (codes front : List ℕ) (last : ℕ) → codes ≡ front ++ last ∷ [] → IsCode last → after s (char l.set s.drawing last) ≡ walk s (text_entries s.drawing Pen.After l.set codes)
   text_left codes front last is is_code =
-      sym (text_leaves s l.set (text_hand s.drawing) codes front last is ∙ ap (λ (step : Option TextStep). after s (text_entry_as step l.set (text_hand s.drawing) last)) (plain_code last is_code))
+      sym (text_leaves s l.set (text_hand s.drawing) codes front last is ∙ ap (λ step. after s (text_entry_as step l.set (text_hand s.drawing) last)) (plain_code last is_code))
 
 -- One more line.
 
@@ -107,8 +107,8 @@ one_line l code bytes digits others others2 others3 more is first second written
 
 pub codes_more : (l : CharLine) (bytes codes rest more : List ℕ) (code : ℕ) → bytes ≡ code_lines l codes ++ rest → rest ≡ code_line l code ++ more → bytes ≡ code_lines l (codes ++ code ∷ []) ++ more
 codes_more l bytes codes rest more code is next =
-    is ∙ ap (λ (xs : List ℕ). code_lines l codes ++ xs) next ∙ sym (append_assoc (code_lines l codes) (code_line l code) more)
-    ∙ ap (λ (xs : List ℕ). xs ++ more) (flat_map_more (code_line l) [] codes code)
+    is ∙ ap (code_lines l codes ++◌) next ∙ sym (append_assoc (code_lines l codes) (code_line l code) more)
+    ∙ ap (◌++ more) (flat_map_more (code_line l) [] codes code)
 
 pub last_code : (codes front : List ℕ) (last : ℕ) → codes ≡ front ++ last ∷ [] → All IsCode codes → IsCode last
 last_code codes front last is all = by front (subst (All IsCode) is all)

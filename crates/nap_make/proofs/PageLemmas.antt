@@ -1,13 +1,13 @@
-use Rattle.nap_make.proofs.Common.{All-nil, AllFit, Appends, Appends-kept, Bool, Broke, Canonical, ComeFirst, ConcludesPage, DeniesInput, DeniesLines, EachGave, Entry, Err, FeedsFrom, Finishes, Ghosts, Grows, IsCutOff, IsPrefixOf, IsProper, IsReadWhole, Keeps, LineReader, LinesSoFar, List, ListFault, MakeFault, Makes, MakesList, MakesNoList, MakesNone, MakesPage, MakesPart, NoneFailed, Ok, PageFault, Piece, PutsLines, Reading, ReadsNoMore, RefusesLines, RefusesLinesBy, Result, Sends, ShowsNone, SinkTook, Some, StartsText, State, StopsLines, StopsLinesBy, Took, Two, Writes, [], ap, append-nil, append_assoc, arith, count_of, drop, entry_bytes, entry_bytes_after, entry_pieces, false, fault_of_input, fault_of_text, grows_more, header, inl, inr, page_answer, pieces, pieces-append, pieces_bytes, pieces_bytes-append, refl, sending, sending_of, sink_writes_text, start, subst, sym, take, take-append-drop, text, text_end_after, text_end_after_header, took_none, true, walk, ℕ, ◌++◌, ◌∙◌, ◌∷◌, ◌≡◌, ◌≢◌, ◌⊎◌}
+use Rattle.nap_make.proofs.{All-nil, AllFit, Appends, Appends-kept, Bool, Broke, Canonical, ComeFirst, ConcludesPage, DeniesInput, DeniesLines, EachGave, Entry, Err, FeedsFrom, Finishes, Ghosts, Grows, IsCutOff, IsPrefixOf, IsProper, IsReadWhole, Keeps, LineReader, LinesSoFar, List, ListFault, MakeFault, Makes, MakesList, MakesNoList, MakesNone, MakesPage, MakesPart, NoneFailed, Ok, PageFault, PutsLines, Reading, ReadsNoMore, RefusesLines, RefusesLinesBy, Result, Sends, ShowsNone, SinkTook, Some, StartsText, State, StopsLines, StopsLinesBy, Took, Two, Writes, [], ap, append-nil, append_assoc, arith, count_of, drop, entry_bytes, entry_bytes_after, entry_pieces, false, fault_of_input, fault_of_text, grows_more, header, inl, inr, page_answer, pieces, pieces-append, pieces_bytes, pieces_bytes-append, refl, sending, sending_of, sink_writes_text, start, subst, sym, take, take-append-drop, text, text_end_after, text_end_after_header, took_none, true, walk, ℕ, ◌++◌, ◌∙◌, ◌∷◌, ◌≡◌, ◌≢◌, ◌⊎◌}
 use Rattle.nap_list.specs.declared.device.Outlet as outlet
 
 -- The bytes of a canonical sink that failed during an entry, and how often its output was flushed.
 
-module _ {O : Type 0} (o : outlet.Ghosts O) (w : O) (s : Canonical O) (begins : StartsText o w s) (works : o.failed s.outlet ≡ false) where
+module _ {O : Type 0} {o : outlet.Ghosts O} {w : O} {s : Canonical O} (begins : StartsText o w s) (works : o.failed s.outlet ≡ false) where
   -- the header was written
   header_went : Grows (sending o w 0) header (sending_of o s)
   unfolding pieces_bytes pieces
-  header_went = subst (λ (bytes : List ℕ). Grows (sending o w 0) bytes (sending_of o s)) (append-nil header) (sink_writes_text o w s s [] begins works (took_none o s)).grows
+  header_went = subst (λ bytes. Grows (sending o w 0) bytes (sending_of o s)) (append-nil header) (sink_writes_text o w s s [] begins works (took_none o s)).grows
 
   -- the bytes of entries are those of a text after its header
   bytes_with_header : (d : List Entry) → entry_bytes s d ≡ pieces_bytes text_end_after_header (pieces Two start d)
@@ -27,10 +27,10 @@ module _ {O : Type 0} (o : outlet.Ghosts O) (w : O) (s : Canonical O) (begins : 
       let u = walk start d in
       let text_end = text_end_after text_end_after_header (pieces Two start d) in
       let prefix = pieces_bytes text_end_after_header (pieces Two start d) in
-      ap (λ (ps : List Piece). header ++ pieces_bytes text_end_after_header ps) (pieces-append Two start d (e ∷ []))
-      ∙ ap (λ (bytes : List ℕ). header ++ bytes) (pieces_bytes-append text_end_after_header (pieces Two start d) (pieces Two u (e ∷ [])))
-      ∙ ap (λ (ps : List Piece). header ++ (prefix ++ pieces_bytes text_end ps)) (one_piece u e)
-      ∙ ap (λ (bytes : List ℕ). header ++ (prefix ++ bytes)) (sym (next_entry_bytes d e))
+      ap (λ ps. header ++ pieces_bytes text_end_after_header ps) (pieces-append Two start d (e ∷ []))
+      ∙ ap (header ++◌) (pieces_bytes-append text_end_after_header (pieces Two start d) (pieces Two u (e ∷ [])))
+      ∙ ap (λ ps. header ++ (prefix ++ pieces_bytes text_end ps)) (one_piece u e)
+      ∙ ap (λ bytes. header ++ (prefix ++ bytes)) (sym (next_entry_bytes d e))
       ∙ sym (append_assoc header prefix (entry_bytes_after s d e))
 
   -- The bytes of a sink that failed during an entry are a prefix of the text of the entries before it and the entry.
@@ -39,12 +39,12 @@ module _ {O : Type 0} (o : outlet.Ghosts O) (w : O) (s : Canonical O) (begins : 
       let bytes = entry_bytes_after s d e in
       let part = take broke.part bytes in
       let all : header ++ (entry_bytes s d ++ part) ≡ text d ++ part =
-      ap (λ (bs : List ℕ). header ++ (bs ++ part)) (bytes_with_header d) ∙ sym (append_assoc header (pieces_bytes text_end_after_header (pieces Two start d)) part) in (
+      ap (λ bs. header ++ (bs ++ part)) (bytes_with_header d) ∙ sym (append_assoc header (pieces_bytes text_end_after_header (pieces Two start d)) part) in (
         text d ++ part,
-        subst (λ (bs : List ℕ). Grows (sending o w 0) bs (sending_of o t)) all (grows_more (sending o w 0) (sending_of o s) (sending_of o t) header (entry_bytes s d ++ part) header_went broke.grows),
+        subst (λ bs. Grows (sending o w 0) bs (sending_of o t)) all (grows_more (sending o w 0) (sending_of o s) (sending_of o t) header (entry_bytes s d ++ part) header_went broke.grows),
         (
           drop broke.part bytes,
-          text_more d e ∙ ap (λ (bs : List ℕ). text d ++ bs) (sym (take-append-drop broke.part bytes)) ∙ sym (append_assoc (text d) part (drop broke.part bytes)),
+          text_more d e ∙ ap (text d ++◌) (sym (take-append-drop broke.part bytes)) ∙ sym (append_assoc (text d) part (drop broke.part bytes)),
         ),
       )
 
@@ -62,7 +62,7 @@ no_lines = record { proper = All-nil IsProper; fit = tt; parts = refl }
 
 -- lines that show a fault have it
 pub shown_here : (p : List ℕ) (es : List Entry) (f : MakeFault) → ShowsNone p es f → MakesNone p es f
-shown_here p es f shows = subst (λ (q : List ℕ). MakesNone q es f) (append-nil p) (shows [])
+shown_here p es f shows = subst (λ q. MakesNone q es f) (append-nil p) (shows [])
 
 module _ {O : Type 0} (o : outlet.Ghosts O) (w : O) (s : Canonical O) (begins : StartsText o w s) (works : o.failed s.outlet ≡ false) (g : Ghosts (Canonical O))
     (took_is : (t : Canonical O) (d : List Entry) → g.took s d t → Took o s d t)
@@ -134,8 +134,8 @@ module _ {O : Type 0} (o : outlet.Ghosts O) (w : O) (s : Canonical O) (begins : 
 
   stopped : (t : Canonical O) (f : MakeFault) (es : List Entry) → EachGave p seen → ComeFirst p es → StopsLinesBy g s p es t f → (q : List ℕ) × WentOut t (Err (ListFault.Lines f)) q
   stopped t MakeFault.Write es gave first h =
-      let wrote = broken_sink_writes_prefix o w s begins works t es h.0 (broke_is t es h.0 h.2.broke) in
-      let here = subst (λ (q : List ℕ). ComeFirst q (es ++ h.0 ∷ [])) (append-nil p) (h.1 []) in (
+      let wrote = broken_sink_writes_prefix begins works t es h.0 (broke_is t es h.0 h.2.broke) in
+      let here = subst (λ q. ComeFirst q (es ++ h.0 ∷ [])) (append-nil p) (h.1 []) in (
         wrote.0,
         record {
           grows = wrote.1;
@@ -188,13 +188,13 @@ pub header_fails : {O : Type 0} (o : outlet.Ghosts O) (w : O) (s : Canonical O) 
     Keeps (o.taken s.outlet) (o.taken u) → o.failed u ≡ true → ConcludesPage s.written (Ok tt) (o.failed u) answer →
     (q : List ℕ) × Appends (o.taken w) (o.taken u) q × MakesPage [] seen q (o.failed u) answer × ReadsNoMore (o.write_failed u) [] seen × Writes (sending o w 0) (sending_of o s)
 header_fails o w s begins fails seen gave u answer keeps failed ends =
-    let sent : Sends (sending o w 0) header true (sending_of o s) = subst (λ (broke : Bool). Sends (sending o w 0) header broke (sending_of o s)) fails begins.begins in
+    let sent : Sends (sending o w 0) header true (sending_of o s) = subst (λ broke. Sends (sending o w 0) header broke (sending_of o s)) fails begins.begins in
     let q = take sent.part header in
     let prefix : IsPrefixOf q (text []) = (
       drop sent.part header ++ pieces_bytes text_end_after_header (pieces Two start []),
-      ap (λ (bytes : List ℕ). bytes ++ pieces_bytes text_end_after_header (pieces Two start [])) (sym (take-append-drop sent.part header)) ∙ append_assoc q (drop sent.part header) (pieces_bytes text_end_after_header (pieces Two start [])),
+      ap (◌++ pieces_bytes text_end_after_header (pieces Two start [])) (sym (take-append-drop sent.part header)) ∙ append_assoc q (drop sent.part header) (pieces_bytes text_end_after_header (pieces Two start [])),
     ) in
-    let is : answer ≡ Err (PageFault.Write s.written) = subst (λ (b : Bool). ConcludesPage s.written (Ok tt) b answer) failed ends in (
+    let is : answer ≡ Err (PageFault.Write s.written) = subst (λ b. ConcludesPage s.written (Ok tt) b answer) failed ends in (
       q,
       Appends-kept (o.taken w) (o.taken s.outlet) (o.taken u) q sent.grows.taken keeps,
       rw (failed, is) (omega (arith, sent.grows.count), record { entries = []; rest = []; so_far = no_lines; prefix = prefix; left = inr (inr gave) }),
@@ -213,10 +213,10 @@ denies_lines g s p t f is = grind arith
 
 module _ {S : Type 0} (g : Ghosts S) (s : S) (p : List ℕ) (t : S) (r : Result ℕ MakeFault) where
   pub puts_page : (n : ℕ) → PutsLines g s p t r → r ≡ Ok n → Finishes g s p t (Ok n)
-  puts_page n h is = subst (λ (made : Result ℕ MakeFault). PutsLines g s p t made) is h
+  puts_page n h is = subst (PutsLines g s p t) is h
 
   pub puts_no_page : (f : MakeFault) → PutsLines g s p t r → r ≡ Err f → DeniesLines p (fault_of_text f)
-  puts_no_page f h is = denies_lines g s p t f (subst (λ (made : Result ℕ MakeFault). PutsLines g s p t made) is h)
+  puts_no_page f h is = denies_lines g s p t f (subst (PutsLines g s p t) is h)
 
 -- Lines of an input.
 module _ {S : Type 0} (g : Ghosts S) (s : S) (p : List ℕ) (seen : Reading) (t : S) where
@@ -236,13 +236,13 @@ module _ {S : Type 0} (g : Ghosts S) (s : S) (p : List ℕ) (seen : Reading) (t 
   denies_input f (inr h) = (text h.2.entries, shown h.2.entries f h.0 h.2.why.0)
 
   pub makes_page : (r : Result (Unit {0}) ListFault) → Makes g s p seen t r → r ≡ Ok tt → IsReadWhole seen p × MakesList g s p t
-  makes_page r h is = subst (λ (made : Result (Unit {0}) ListFault). Makes g s p seen t made) is h
+  makes_page r h is = subst (Makes g s p seen t) is h
 
   denied : (f : ListFault) → Makes g s p seen t (Err f) → DeniesInput p seen (fault_of_input f)
   denied f is = grind (arith, denies_input)
 
   pub made_none : (r : Result (Unit {0}) ListFault) (f : ListFault) → Makes g s p seen t r → r ≡ Err f → DeniesInput p seen (fault_of_input f)
-  made_none r f h is = denied f (subst (λ (made : Result (Unit {0}) ListFault). Makes g s p seen t made) is h)
+  made_none r f h is = denied f (subst (Makes g s p seen t) is h)
 
 -- What was read of an input or of memory makes a list, or none.
 
@@ -256,7 +256,7 @@ module _ {S : Type 0} (g : Ghosts S) (s : S) (p : List ℕ) (t : S) where
     entries = es;
     first = first;
     own = own;
-    why = subst (λ (q : List ℕ). MakesNone q es f) (append-nil p) (shows []);
+    why = shown_here p es f shows;
     kept = kept;
   }
 

@@ -1,24 +1,22 @@
--- The proofs of the laws.
+use Rattle.nap_make.proofs.{AreLines, Entry, IsAccepted, IsMadeOf, IsReadAs, LineTellsEntry, LinesAreBounded, LinesHaveNoEnds, LinesTellLists, List, ListsAgain, ListsTellStreams, MadePagesAgree, accepted_is_legal, ap, canonical_streams_agree, Common.lines, list_of, read_values_are_in_range, refl, subst, sym, text, text_is_read, ℕ, ◌∙◌, ◌≡◌}
+pub use Rattle.nap_make.proofs.{ValueLemmas.no_cut, ValueLemmas.one_cut, ValueLemmas.uncut, PageLemmas.text_written}
+use Rattle.nap_make.proofs.LawLemmas as law
 
-use Rattle.nap_make.proofs.Common.{AreLines, Entry, IsAccepted, IsMadeOf, IsReadAs, LineTellsEntry, LinesAreBounded, LinesHaveNoEnds, LinesTellLists, List, ListsAgain, ListsTellStreams, MadePagesAgree, accepted_is_legal, ap, canonical_streams_agree, lines, list_of, read_values_are_in_range, refl, subst, sym, text, text_is_read, ℕ, ◌∙◌, ◌≡◌}
-use Rattle.nap_make.proofs.BoundLemmas as bounds
-use Rattle.nap_make.proofs.LawLemmas as law_lemmas
-pub use Rattle.nap_make.proofs.CutLemmas.{no_cut, one_cut, uncut}
-pub use Rattle.nap_make.proofs.PageLemmas.{text_written}
+-- The proofs of the laws.
 
 -- Laws of lines.
 
 pub line_tells_entry : LineTellsEntry
-line_tells_entry = law_lemmas.line_tells
+line_tells_entry = law.line_tells
 
 pub lines_tell_lists : LinesTellLists
-lines_tell_lists = law_lemmas.lines_tell
+lines_tell_lists = law.lines_tell
 
 pub lines_are_bounded : LinesAreBounded
-lines_are_bounded = bounds.line_bounded
+lines_are_bounded = law.line_bounded
 
 pub lines_have_no_ends : LinesHaveNoEnds
-lines_have_no_ends = law_lemmas.line_whole
+lines_have_no_ends = law.line_whole
 
 -- Laws of the pages that lines make.
 
@@ -37,7 +35,7 @@ one_list p d e one two = lines_tell_lists d e one.in_range two.in_range (sym one
 
 again : (budget : ℕ) (c p : List ℕ) → IsMadeOf c p → ListsAgain budget c p
 again budget c p made =
-    let read = subst (λ (s : List ℕ). IsReadAs budget s made.entries) (sym made.text_is) (text_is_read budget made.entries made.are.legal made.are.in_range) in
+    let read = subst (λ s. IsReadAs budget s made.entries) (sym made.text_is) (text_is_read budget made.entries made.are.legal made.are.in_range) in
     record { accepted = read.accepted; lines_are = ap lines read.list ∙ sym made.are.lines_are; uncharged = read.uncharged }
 
 -- an accepted page has the lines of its list

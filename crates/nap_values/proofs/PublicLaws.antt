@@ -1,9 +1,7 @@
-use Rattle.nap_values.proofs.Common.{AddressesSpellOnce, All, ColoursSpellOnce, Components, Displacement, DisplacementsAreUnique, DisplacementsLeadThere, IsOnlySpelling, IsWord, List, MissingWordsAreZero, MovesSpellOnce, PointsAreInside, PointsSpellOnce, ValuesAreInRange, addr_bytes, ap, arith, b_digit, bits_of, colour_of, digits_of, displaced_point, displacement_to, g_digit, grb_bytes, ints, length, length-map, map, map-append, move_bytes, multi_of, negsuc, operand_bytes, point_at, point_bytes, pos, r_digit, refl, replicate, single_of, suc, sym, value_of, x_digit, y_digit, zero, ℕ, ◌++◌, ◌+ℤ◌, ◌+◌, ◌-ℤ◌, ◌<ℤ◌, ◌<◌, ◌∙◌, ◌∷◌, ◌≡◌, ◌≤ℤ◌}
-use Rattle.nap_values.proofs.DigitLemmas.{value_of-digits_of, digits_of-value_of, value_of-below, length-digits_of, digits_of-below, value_of-append-zeros}
-use Rattle.nap_values.proofs.SpellingLemmas.{words_of-operand_bytes, operand_bytes-operand_bytes, g_digits-below, r_digits-below, b_digits-below}
-use Rattle.nap_values.proofs.PackedLemmas.{pair_words, length-pair_words, pair_words-words, x_value-pair_words, y_value-pair_words, pair_words-values, x_value-below, y_value-below}
-use Rattle.nap_values.proofs.PackedColourLemmas.{triple_words, length-triple_words, triple_words-words, values-triple_words, triple_words-values}
-use Rattle.nap_values.proofs.CoordinateLemmas.{bits_of-signed_of, signed_of-bits_of, bits_of-below, signed_of-low, signed_of-high, point_with-in_square, point_with-back}
+use Rattle.nap_values.proofs.{AddressesSpellOnce, All, ColoursSpellOnce, Components, Displacement, DisplacementsAreUnique, DisplacementsLeadThere, IsOnlySpelling, IsWord, List, MissingWordsAreZero, MovesSpellOnce, PointsAreInside, PointsSpellOnce, ValuesAreInRange, addr_bytes, ap, arith, b_digit, bits_of, colour_of, digits_of, displaced_point, displacement_to, g_digit, grb_bytes, ints, length, length-map, map, map-append, move_bytes, multi_of, negsuc, operand_bytes, point_at, point_bytes, pos, r_digit, refl, replicate, single_of, suc, sym, value_of, x_digit, y_digit, zero, ℕ, ◌++◌, ◌+ℤ◌, ◌+◌, ◌-ℤ◌, ◌<ℤ◌, ◌<◌, ◌∙◌, ◌∷◌, ◌≡◌, ◌≤ℤ◌}
+use Rattle.nap_values.proofs.DigitLemmas.{digits_of-below, digits_of-value_of, length-digits_of, value_of-append-zeros, value_of-below, value_of-digits_of}
+use Rattle.nap_values.proofs.WordLemmas.{b_digits-below, bits_of-below, bits_of-signed_of, g_digits-below, length-pair_words, operand_bytes-operand_bytes, pair_words, pair_words-values, pair_words-words, point_with-back, point_with-in_square, r_digits-below, signed_of-bits_of, signed_of-low, words_of-operand_bytes, x_value-below, x_value-pair_words, y_value-below, y_value-pair_words}
+use Rattle.nap_values.proofs.ColourLemmas.{length-triple_words, triple_words, triple_words-values, triple_words-words, values-triple_words}
 
 -- The laws that crates above cite.
 
@@ -12,7 +10,7 @@ spelling_of_words : {V : Type 0} (read : List ℕ → V) (size : ℕ) (value : V
     length words ≡ size → All IsWord words → read words ≡ value →
     ((others : List ℕ) → All IsWord others → length others ≡ size → read others ≡ value → others ≡ words) →
     IsOnlySpelling read size value (operand_bytes words)
-spelling_of_words read size value words size_is all is only = record {
+spelling_of_words read _ _ words size_is all is only = record {
   size_is = length-map words (λ word. 64 + word) ∙ size_is;
   carriers = operand_bytes-operand_bytes words all;
   read_back = ap read (words_of-operand_bytes words) ∙ is;
@@ -21,7 +19,7 @@ spelling_of_words read size value words size_is all is only = record {
 
 -- displacements with equal components are equal
 displacement_parts : (m k : Displacement) → m.x ≡ k.x → m.y ≡ k.y → m ≡ k
-displacement_parts m k same_x same_y = rw (same_x, same_y) refl
+displacement_parts m k same_x same_y = rw (same_x, same_y)
 
 pub moves_spell_once : MovesSpellOnce
 unfolding multi_of move_bytes
@@ -37,7 +35,7 @@ moves_spell_once m within =
       y_value-pair_words (bits_of m.x) (bits_of m.y) x_fits y_fits,
       signed_of-bits_of m.x within.0 within.1,
       signed_of-bits_of m.y within.2 within.3,
-    ) refl)
+    ))
     (λ others all size is.
     let x_is = sym (bits_of-signed_of (value_of 8 8 (map x_digit others)) (x_value-below others all)) ∙ ap (λ (k : Displacement). bits_of k.x) is in
     let y_is = sym (bits_of-signed_of (value_of 8 8 (map y_digit others)) (y_value-below others all)) ∙ ap (λ (k : Displacement). bits_of k.y) is in
@@ -75,7 +73,7 @@ colours_spell_once c within =
     spelling_of_words colour_of 8 c words
     (length-triple_words c.g c.r c.b within.0 within.1 within.2)
     (triple_words-words c.g c.r c.b within.0 within.1 within.2)
-    (rw (values.0, values.1, values.2) refl)
+    (rw (values.0, values.1, values.2))
     (λ others all size is.
     let g_is = ap (λ (k : Components). k.g) is in
     let r_is = ap (λ (k : Components). k.r) is in
@@ -90,28 +88,28 @@ map-replicate f (suc n) d = ap (λ rest. f d ∷ rest) (map-replicate f n d)
 value_of-missing : (base places : ℕ) (digit : ℕ → ℕ) (words : List ℕ) (n : ℕ) → digit 0 ≡ 0 →
     value_of base places (map digit (words ++ replicate n 0)) ≡ value_of base places (map digit words)
 value_of-missing base places digit words n zero_is =
-    rw (map-append digit words (replicate n 0), map-replicate digit n 0, zero_is) (value_of-append-zeros base places (map digit words) n)
+    rw (map-append digit words _, map-replicate digit n 0, zero_is) (value_of-append-zeros base places (map digit words) n)
 
 pub missing_words_are_zero : MissingWordsAreZero
 unfolding multi_of single_of colour_of
 missing_words_are_zero words n = (
-  rw (value_of-missing 8 8 x_digit words n refl, value_of-missing 8 8 y_digit words n refl) refl,
+  rw (value_of-missing 8 8 x_digit words n refl, value_of-missing 8 8 y_digit words n refl),
   value_of-append-zeros 64 4 words n,
   rw (
     value_of-missing 4 8 g_digit words n refl,
     value_of-missing 4 8 r_digit words n refl,
     value_of-missing 4 8 b_digit words n refl,
-  ) refl,
+  ),
 )
 
 pub values_are_in_range : ValuesAreInRange
 unfolding multi_of single_of colour_of
 values_are_in_range words all =
-    search (signed_of-low, signed_of-high, x_value-below, y_value-below, value_of-below, g_digits-below, r_digits-below, b_digits-below, arith)
+    search (signed_of-low, x_value-below, y_value-below, value_of-below, g_digits-below, r_digits-below, b_digits-below, arith)
 
 -- a number plus the displacement from it to another is the other
 there : (a b : ℕ) → pos a +ℤ (pos b -ℤ pos a) ≡ pos b
-there a b = omega (arith, ints)
+there = omega (arith, ints)
 
 -- the displacement between numbers below 2^23 is in range
 way_in_range : (a b : ℕ) → a < 8388608 → b < 8388608 → (negsuc 8388607 ≤ℤ (pos b -ℤ pos a)) × ((pos b -ℤ pos a) <ℤ pos 8388608)
@@ -127,15 +125,15 @@ displacements_lead_there p q p_inside q_inside =
 pub displacements_are_unique : DisplacementsAreUnique
 unfolding displaced_point displacement_to
 displacements_are_unique p q m is =
-    let back = point_with-back (pos p.x +ℤ m.x) (pos p.y +ℤ m.y) q is in
-    let x_is : pos q.x -ℤ pos p.x ≡ m.x = omega (arith, ints, back.1) in
-    let y_is : pos q.y -ℤ pos p.y ≡ m.y = omega (arith, ints, back.2) in
-    (back.0, displacement_parts (displacement_to p q) m x_is y_is)
+    let back = point_with-back _ (pos p.y +ℤ m.y) q is in
+    let x_is : pos q.x -ℤ pos p.x ≡ m.x = omega (arith, ints) in
+    let y_is : pos q.y -ℤ pos p.y ≡ m.y = omega (arith, ints) in
+    (back.0, displacement_parts _ m x_is y_is)
 
 pub points_are_inside : PointsAreInside
 unfolding point_at displacement_to
 points_are_inside m p is =
     let back = point_with-back m.x m.y p is in
-    let x_is : pos p.x -ℤ pos 0 ≡ m.x = omega (arith, ints, back.1) in
-    let y_is : pos p.y -ℤ pos 0 ≡ m.y = omega (arith, ints, back.2) in
-    (back.0, displacement_parts (displacement_to (record { x = 0; y = 0 }) p) m x_is y_is)
+    let x_is : pos p.x -ℤ pos 0 ≡ m.x = omega (arith, ints) in
+    let y_is : pos p.y -ℤ pos 0 ≡ m.y = omega (arith, ints) in
+    (back.0, displacement_parts _ m x_is y_is)

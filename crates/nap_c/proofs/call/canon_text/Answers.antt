@@ -1,4 +1,4 @@
-use Rattle.nap_c.proofs.Common.{inl}
+use Rattle.nap_c.proofs.{inl}
 use Rattle.nap_c.proofs.call.canon_text.Goals as goal
 
 pub returns-in-Ok-Ok : goal.returns-in-Ok-Ok

@@ -1,5 +1,4 @@
-use Rattle.nap_c.proofs.Common.{LacksForText, inl, list_of, refl, text1}
-use Rattle.nap_c.proofs.AnswerLemmas.{answers_text}
+use Rattle.nap_c.proofs.{AnswerLemmas.answers_text, LacksForText, inl, list_of, refl, text1}
 use Rattle.nap_c.proofs.call.naplps_canon_form1.Goals as goal
 
 pub returns : goal.returns

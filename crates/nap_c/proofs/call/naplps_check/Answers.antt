@@ -1,5 +1,4 @@
-use Rattle.nap_c.proofs.Common.{CountSink, ap, inl, refl}
-use Rattle.nap_c.proofs.AnswerLemmas.{answers_uncounted, refused_to_count}
+use Rattle.nap_c.proofs.{AnswerLemmas.answers_uncounted, AnswerLemmas.refused_to_count, CountSink, ap, inl, refl}
 use Rattle.nap_c.proofs.call.naplps_check.Goals as goal
 
 pub returns-in-Err : goal.returns-in-Err

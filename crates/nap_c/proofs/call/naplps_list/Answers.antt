@@ -1,6 +1,5 @@
-use Rattle.nap_c.proofs.Common.{BreaksWithin, inl, list_of, refl}
+use Rattle.nap_c.proofs.{AnswerLemmas.answers_text, BreaksWithin, inl, list_of, refl}
 use Rattle.nap_lines.specs.Listing.{lines}
-use Rattle.nap_c.proofs.AnswerLemmas.{answers_text}
 use Rattle.nap_c.proofs.call.naplps_list.Goals as goal
 
 pub returns : goal.returns

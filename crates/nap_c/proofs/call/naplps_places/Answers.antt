@@ -1,5 +1,4 @@
-use Rattle.nap_c.proofs.Common.{Refusal, ap, inl, inr, refl, refused_answer, ◌∙◌}
-use Rattle.nap_c.proofs.AnswerLemmas.{answers_places}
+use Rattle.nap_c.proofs.{AnswerLemmas.answers_places, ap, inl, inr, refl, refused_answer, ◌∙◌}
 use Rattle.nap_c.proofs.call.naplps_places.Goals as goal
 
 pub returns-in-Ok : goal.returns-in-Ok
@@ -13,5 +12,5 @@ returns-in-Ok c =
 pub returns-in-Err : goal.returns-in-Err
 returns-in-Err c =
     let page = c.args.page.now in
-    let says = c.refused_answer.ensures ∙ ap (λ (r : Refusal). refused_answer r 0) c.memory_refusal_at_end.ensures in
+    let says = c.refused_answer.ensures ∙ ap (λ r. refused_answer r 0) c.memory_refusal_at_end.ensures in
     inl (c.in-Some.ensures.found.0 refl, inr (inr (record { place = _; wanting = inr refl; answer = says }, refl)))

@@ -1,5 +1,4 @@
-use Rattle.nap_c.proofs.Common.{Made, ap, false, true}
-use Rattle.nap_c.proofs.AnswerLemmas.{answers_page}
+use Rattle.nap_c.proofs.{AnswerLemmas.answers_page, Made, ap, false, true}
 use Rattle.nap_c.proofs.made.naplps_make.Goals as goal
 
 pub returns-then-copy_if_fits : goal.returns-then-copy_if_fits

@@ -1,5 +1,4 @@
-use Rattle.nap_canon.proofs.Common.{List, [], ap, arith, length-take-le, slice_index, sym, take, take_all, take_more, with_bytes_at, ℕ, ◌++◌, ◌+◌, ◌∙◌, ◌∷◌, ◌≡◌}
-use Rattle.nap_canon.proofs.texts.AppendedLemmas.{appended_none, appended_after}
+use Rattle.nap_canon.proofs.{List, Texts.appended_after, Texts.appended_none, [], ap, arith, length-take-le, slice_index, sym, take, take_all, take_more, with_bytes_at, ℕ, ◌++◌, ◌+◌, ◌∙◌, ◌∷◌, ◌≡◌}
 use Rattle.nap_canon.proofs.byte_buffer.write_bytes_at.Goals as goal
 
 pub loop-i-init : goal.loop-i-init

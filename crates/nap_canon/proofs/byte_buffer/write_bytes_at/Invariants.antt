@@ -1,4 +1,4 @@
-use Rattle.nap_canon.proofs.Common.{take, with_bytes_at, ◌≡◌}
+use Rattle.nap_canon.proofs.{take, with_bytes_at, ◌≡◌}
 use Rattle.nap_canon.proofs.byte_buffer.write_bytes_at.Given as goal
 
 -- the bytes so far

@@ -1,6 +1,4 @@
-use Rattle.nap_canon.proofs.Common.{List, [], ap, append-nil, arith, displacement_bytes, displacement_to, drop_of_length-le, length, length-append, move_bytes, refl, with_bytes_at, ℕ, ◌*◌, ◌++◌, ◌+◌, ◌∙◌, ◌≡◌}
-use Rattle.nap_canon.proofs.texts.AppendedLemmas.{appended_after, appended_none}
-use Rattle.nap_canon.proofs.texts.WriterLemmas.{displacements_more, move_size}
+use Rattle.nap_canon.proofs.{List, Texts.appended_after, Texts.appended_none, Texts.displacements_more, Texts.move_size, [], ap, append-nil, arith, displacement_bytes, displacement_to, drop_of_length-le, length, length-append, move_bytes, refl, with_bytes_at, ℕ, ◌*◌, ◌++◌, ◌+◌, ◌∙◌, ◌≡◌}
 use Rattle.nap_canon.proofs.byte_buffer.write_displacements_at.Goals as goal
 
 pub loop-i-init : goal.loop-i-init

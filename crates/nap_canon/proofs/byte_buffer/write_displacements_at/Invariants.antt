@@ -1,4 +1,4 @@
-use Rattle.nap_canon.proofs.Common.{List, displacement_bytes, drop, length, with_bytes_at, ℕ, ◌*◌, ◌++◌, ◌≡◌}
+use Rattle.nap_canon.proofs.{List, displacement_bytes, drop, length, with_bytes_at, ℕ, ◌*◌, ◌++◌, ◌≡◌}
 use Rattle.nap_canon.proofs.byte_buffer.write_displacements_at.Given as goal
 
 -- the displacements so far, and those left, are all of them

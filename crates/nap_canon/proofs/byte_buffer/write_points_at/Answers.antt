@@ -1,6 +1,4 @@
-use Rattle.nap_canon.proofs.Common.{ap, arith, length, length-append, points_bytes, refl, with_bytes_at, ◌∙◌}
-use Rattle.nap_canon.proofs.texts.PointsLemmas.{point_size, points_all, points_more}
-use Rattle.nap_canon.proofs.texts.AppendedLemmas.{appended_after, appended_none}
+use Rattle.nap_canon.proofs.{Texts.appended_after, Texts.appended_none, Texts.point_size, Texts.points_all, Texts.points_more, ap, arith, length, length-append, points_bytes, refl, with_bytes_at, ◌∙◌}
 use Rattle.nap_canon.proofs.byte_buffer.write_points_at.Goals as goal
 
 pub loop-point-init : goal.loop-point-init

@@ -1,4 +1,4 @@
-use Rattle.nap_canon.proofs.Common.{length, points_bytes, take, with_bytes_at, ◌*◌, ◌+◌, ◌≡◌}
+use Rattle.nap_canon.proofs.{length, points_bytes, take, with_bytes_at, ◌*◌, ◌+◌, ◌≡◌}
 use Rattle.nap_canon.proofs.byte_buffer.write_points_at.Given as goal
 
 -- the points so far

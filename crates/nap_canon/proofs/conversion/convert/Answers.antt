@@ -1,5 +1,5 @@
-use Rattle.nap_canon.proofs.Common.{Canonical, Concludes, Consumes-nil, Converts, Keeps, Ok, StopsAtOnce, Writes, [], ap, false, reading, refl, sending, sending_of, subst, sym, true, ℕ, ◌∙◌, ◌≡◌}
-use Rattle.nap_canon.proofs.conversions.ConvertLemmas.{end_converts, fed_converts, flushed_once, header_fails, whole_converts}
+use Rattle.nap_canon.proofs.{Canonical, Concludes, Consumes-nil, Converts, Keeps, Ok, StopsAtOnce, Writes, [], ap, false, reading, refl, sending, sending_of, subst, sym, true, ℕ, ◌∙◌, ◌≡◌}
+use Rattle.nap_canon.proofs.Conversions.{end_converts, fed_converts, flushed_once, header_fails, whole_converts}
 use Rattle.nap_canon.proofs.conversion.convert.Goals as goal
 
 -- the header was not written

@@ -1,5 +1,5 @@
-use Rattle.nap_canon.proofs.Common.{IsPageText, arith, subst}
-use Rattle.nap_canon.proofs.reading_back.CanonicalLaws.{equal_texts, own_text, plain_text, read_as}
+use Rattle.nap_canon.proofs.{IsPageText, arith, subst}
+use Rattle.nap_canon.proofs.ReadingBack.{equal_texts, own_text, plain_text, read_as}
 use Rattle.nap_canon.proofs.conversion.normalise.Goals as goal
 
 pub returns-in-Ok-Ok : goal.returns-in-Ok-Ok

@@ -1,5 +1,4 @@
-use Rattle.nap_canon.proofs.Common.{arith}
-use Rattle.nap_canon.proofs.sinks.PageLemmas.{refuses_counted}
+use Rattle.nap_canon.proofs.{Sinks.refuses_counted, arith}
 use Rattle.nap_canon.proofs.conversion.refusal_or_memory.Goals as goal
 
 pub returns-in-Ok : goal.returns-in-Ok

@@ -1,7 +1,5 @@
-use Rattle.nap_canon.proofs.Common.{LexerState, arith, subst, sym, ◌∙◌}
-use Rattle.nap_canon.proofs.plain_codes.CheckLemmas.{start_check}
-use Rattle.nap_canon.proofs.plain_codes.LexedLemmas.{Checked, checked_code, checked_end, checked_more, checked_start, refused_byte, refused_code}
-use Rattle.nap_canon.proofs.plain.is_plain.Goals.{in-Code+in-Some, in-More}
+use Rattle.nap_canon.proofs.{LexerState, arith, plain.is_plain.Goals.in-Code+in-Some, plain.is_plain.Goals.in-More, subst, sym, ◌∙◌}
+use Rattle.nap_canon.proofs.PlainCodes.{Checked, checked_code, checked_end, checked_more, checked_start, refused_byte, refused_code, start_check}
 use Rattle.nap_canon.proofs.plain.is_plain.Goals as goal
 
 pub loop-byte-init : goal.loop-byte-init

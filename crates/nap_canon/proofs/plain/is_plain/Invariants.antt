@@ -1,4 +1,4 @@
-use Rattle.nap_canon.proofs.plain_codes.LexedLemmas.{Checked}
+use Rattle.nap_canon.proofs.PlainCodes.{Checked}
 use Rattle.nap_canon.proofs.plain.is_plain.Given as goal
 
 -- the bytes so far are lexed, and their codes checked

@@ -1,4 +1,4 @@
-use Rattle.nap_canon.proofs.Common.{All, All-more, IsInSquare, arith, subst, take_all}
+use Rattle.nap_canon.proofs.{All, All-more, IsInSquare, arith, subst, take_all}
 use Rattle.nap_canon.proofs.ranges.points_in_range.Goals as goal
 
 pub loop-at-preserved : goal.loop-at-preserved

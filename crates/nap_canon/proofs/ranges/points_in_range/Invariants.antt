@@ -1,4 +1,4 @@
-use Rattle.nap_canon.proofs.Common.{All, IsInSquare, take}
+use Rattle.nap_canon.proofs.{All, IsInSquare, take}
 use Rattle.nap_canon.proofs.ranges.points_in_range.Given as goal
 
 -- the points so far

@@ -1,7 +1,4 @@
-use Rattle.nap_canon.proofs.Common.{Err, IsPlain, IsReadAs, IsTextAnswer, List, Memory, ap, err_from_is_err_and, refl, subst, sym, ℕ, ◌∙◌, ◌≡◌}
-use Rattle.nap_canon.proofs.reading_back.CanonicalLaws.{text_is_read}
-use Rattle.nap_canon.proofs.plain_codes.PlainTexts.{text_is_plain}
-use Rattle.nap_canon.proofs.texts.FaultLemmas.{illegal_there, illegal_nowhere, never_breaks}
+use Rattle.nap_canon.proofs.{Err, IsPlain, IsReadAs, IsTextAnswer, List, Memory, ReadingBack.text_is_plain, ReadingBack.text_is_read, Texts.illegal_nowhere, Texts.illegal_there, Texts.never_breaks, ap, err_from_is_err_and, refl, subst, sym, ℕ, ◌∙◌, ◌≡◌}
 use Rattle.nap_canon.proofs.text.canon_in.Goals as goal
 
 pub returns-in-Err : goal.returns-in-Err

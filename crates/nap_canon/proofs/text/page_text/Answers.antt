@@ -1,5 +1,4 @@
-use Rattle.nap_canon.proofs.Common.{RefusesPage, arith, subst, sym}
-use Rattle.nap_canon.proofs.sinks.PageLemmas.{refuses_page, text_written}
+use Rattle.nap_canon.proofs.{RefusesPage, Sinks.refuses_page, Sinks.text_written, arith, subst, sym}
 use Rattle.nap_canon.proofs.text.page_text.Goals as goal
 
 pub returns-in-Ok : goal.returns-in-Ok

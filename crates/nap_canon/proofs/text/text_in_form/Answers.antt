@@ -1,6 +1,4 @@
-use Rattle.nap_canon.proofs.Common.{All-more, All-nil, Canonical, Entry, Fits, Form, InRange, List, Piece, State, TextEnd, [], after, ap, append-nil, arith, entry_pieces, pieces, pieces_bytes, start, subst, sym, take, text_end_after, text_in, walk, ℕ, ◌++◌, ◌∙◌, ◌∷◌, ◌≡◌}
-use Rattle.nap_canon.proofs.sinks.SinkingLemmas.{header_sent}
-use Rattle.nap_canon.proofs.texts.WalkLemmas.{fits_at, text_end_more, text_more, walk_more}
+use Rattle.nap_canon.proofs.{All-more, All-nil, Canonical, Entry, Fits, Form, InRange, List, Piece, Sinks.header_sent, State, TextEnd, Texts.fits_at, Texts.text_end_more, Texts.text_more, Texts.walk_more, [], after, ap, append-nil, arith, entry_pieces, pieces, pieces_bytes, start, subst, sym, take, text_end_after, text_in, walk, ℕ, ◌++◌, ◌∙◌, ◌∷◌, ◌≡◌}
 use Rattle.nap_canon.proofs.text.text_in_form.Goals as goal
 
 alone : (form : Form) (s : State) (e : Entry) → pieces form s (e ∷ []) ≡ entry_pieces form s e

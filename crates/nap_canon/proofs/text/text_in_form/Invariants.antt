@@ -1,4 +1,4 @@
-use Rattle.nap_canon.proofs.Common.{AllInRange, pieces, start, take, text_end_after, text_end_after_header, text_in, walk, ◌≡◌}
+use Rattle.nap_canon.proofs.{AllInRange, pieces, start, take, text_end_after, text_end_after_header, text_in, walk, ◌≡◌}
 use Rattle.nap_canon.proofs.text.text_in_form.Given as goal
 
 -- the text of the entries so far

@@ -1,20 +1,19 @@
-use Rattle.nap_cli.proofs.Common.{Err, IsPlainText, Ok, [], or-false, outputs, refl, rules, subst, sym, ◌∙◌}
+use Rattle.nap_cli.proofs.{CommandLineLemmas.true_or_false, Err, IsPlainText, Ok, [], or-false, outputs, refl, rules, subst, sym, ◌∙◌}
 use Rattle.std.proofs.KnownBytes.{Appends-nil}
 use Rattle.clap.specs.Values.{kind_of}
 use Rattle.nap_command.specs.declared.answer.Verdict.{Verdict}
 use Rattle.nap_cli.proofs.ExplainLemmas.{explains_help, explains_memory, explains_wrong, shows_failing, takes_plain}
-use Rattle.nap_cli.proofs.CommandLineLemmas.{true_or_false}
 use Rattle.nap_cli.proofs.program.explain.Goals as goal
 
 pub returns-in_default : goal.returns-in_default
 returns-in_default g c =
     let t = c.report.ensures in
-    explains_memory (kind_of c.args.error) _ _ _ (record { unprinted = record { taken = refl; sent = refl; failed = refl; write_failed = refl; flushes = refl }; e = t.0; reported = t.1; tells = t.2 })
+    explains_memory _ _ _ (kind_of c.args.error) (record { unprinted = assumption; e = t.0; reported = t.1; tells = t.2 })
 
 pub returns-in-Ok-write_whole : goal.returns-in-Ok-write_whole
 returns-in-Ok-write_whole g c =
     let write = c.in-Ok-write_whole.ensures in
-    explains_help (kind_of c.args.error) _ _ _ (λ h. true_or_false c.use_stderr.result c.if-use_stderr.false (c.use_stderr.ensures.1 h)) (record {
+    explains_help _ _ _ (kind_of c.args.error) (λ h. true_or_false c.use_stderr.result c.if-use_stderr.false (c.use_stderr.ensures.1 h)) (record {
       text = c.as_slice-2.result.now;
       e = [];
       ended = Ok Verdict.Accepted;
@@ -29,7 +28,7 @@ returns g c =
     let t = c.report-in-Err.ensures in
     let before = outputs g.O.Outlet g.E.Outlet c.args.output c.args.errors.now in
     let after = outputs g.O.Outlet g.E.Outlet c.write_whole-2.new.output c.report-in-Err.new.errors in
-    explains_help (kind_of c.args.error) before after _ (λ h. true_or_false c.use_stderr.result c.if-use_stderr.false (c.use_stderr.ensures.1 h)) (record {
+    explains_help before after _ (kind_of c.args.error) (λ h. true_or_false c.use_stderr.result c.if-use_stderr.false (c.use_stderr.ensures.1 h)) (record {
       text = c.as_slice-2.result.now;
       e = t.0;
       ended = Err c.in-Err.fault;
@@ -43,8 +42,8 @@ returns-then-use_stderr g c =
     let plain : IsPlainText c.as_slice.result.now = subst IsPlainText (sym c.as_slice.ensures.value) c.in-Ok.ensures in
     let e = takes_plain _ _ _ _ c.write_whole.ensures.takes plain in
     let kinds = c.use_stderr.ensures.0 c.if-use_stderr.true in
-    explains_wrong (kind_of c.args.error) _ _ _ kinds.0 kinds.1 (λ h. search rules) (record {
-      unprinted = record { taken = refl; sent = refl; failed = refl; write_failed = refl; flushes = refl };
+    explains_wrong _ _ _ (kind_of c.args.error) kinds.0 kinds.1 (λ h. search rules) (record {
+      unprinted = assumption;
       e = e.0;
       reported = e.1;
       plain = e.2;

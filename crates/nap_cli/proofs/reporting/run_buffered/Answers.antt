@@ -1,4 +1,4 @@
-use Rattle.nap_cli.proofs.Common.{refl}
+use Rattle.nap_cli.proofs.{refl}
 use Rattle.nap_cli.proofs.reporting.run_buffered.Goals as goal
 
 pub returns : goal.returns

@@ -1,4 +1,4 @@
-use Rattle.nap_cli.proofs.Common.{IsBudget, codes, false, found_of, one_text-rows, refl, subst, sym, ◌∙◌}
+use Rattle.nap_cli.proofs.{IsBudget, codes, false, found_of, one_text-rows, refl, subst, sym, ◌∙◌}
 use Rattle.nap_cli.proofs.CommandLineLemmas.{flag_read, flag_unread, number_read, number_unread, number_same, true_or_false}
 use Rattle.nap_cli.proofs.words.command_named.Goals as goal
 

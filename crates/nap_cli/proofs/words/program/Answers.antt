@@ -1,4 +1,4 @@
-use Rattle.nap_cli.proofs.Common.{App, IfOk-weaker, ap, app_of, app_of_fields, ap₂, codes, command_app, make_app, new_app, page_commands, program_app, string_bytes, true, with_subcommand, ◌∙◌, ◌≡◌}
+use Rattle.nap_cli.proofs.{App, IfOk-weaker, ap, app_of, app_of_fields, ap₂, codes, command_app, make_app, new_app, page_commands, program_app, string_bytes, true, with_subcommand, ◌∙◌, ◌≡◌}
 use Rattle.nap_cli.proofs.words.program.Goals as goal
 
 -- there is a version, a command is required, and its name comes first

@@ -1,5 +1,4 @@
-use Rattle.nap_cli.proofs.Common.{codes, found_of, one_text-rows, sym, ◌∙◌}
-use Rattle.nap_cli.proofs.CommandLineLemmas.{flag_read, flag_unread}
+use Rattle.nap_cli.proofs.{CommandLineLemmas.flag_read, CommandLineLemmas.flag_unread, codes, found_of, one_text-rows, sym, ◌∙◌}
 use Rattle.nap_cli.proofs.words.stream_chosen.Goals as goal
 
 pub returns-in_err-stream : goal.returns-in_err-stream

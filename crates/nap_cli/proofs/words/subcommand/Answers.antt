@@ -1,4 +1,4 @@
-use Rattle.nap_cli.proofs.Common.{IfOk-weaker, ap₂, app_of, codes, flag_rule, new_app, with_rule, ◌||◌, ◌∙◌, ◌≡◌}
+use Rattle.nap_cli.proofs.{IfOk-weaker, ap₂, app_of, codes, flag_rule, new_app, with_rule, ◌||◌, ◌∙◌, ◌≡◌}
 use Rattle.nap_cli.proofs.words.subcommand.Goals as goal
 
 pub returns-clause-app : goal.returns-clause-app

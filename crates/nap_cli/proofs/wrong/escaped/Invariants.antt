@@ -1,4 +1,4 @@
-use Rattle.nap_cli.proofs.Common.{IsPlainText, shown_text, take, ◌≡◌}
+use Rattle.nap_cli.proofs.{IsPlainText, shown_text, take, ◌≡◌}
 use Rattle.nap_cli.proofs.wrong.escaped.Given as goal
 
 -- what was appended so far is how the bytes so far are shown, and is plain

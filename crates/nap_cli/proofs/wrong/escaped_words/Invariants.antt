@@ -1,4 +1,4 @@
-use Rattle.nap_cli.proofs.Common.{map, shown_words, string_bytes, take, ◌≡◌}
+use Rattle.nap_cli.proofs.{map, shown_words, string_bytes, take, ◌≡◌}
 use Rattle.nap_cli.proofs.wrong.escaped_words.Given as goal
 
 -- what there is so far is how the words so far are shown

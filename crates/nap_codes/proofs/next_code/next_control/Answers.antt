@@ -1,4 +1,4 @@
-use Rattle.nap_codes.proofs.Common.{control0_front, control0_rows, front, more_front, row_of}
+use Rattle.nap_codes.proofs.{control0_front, control0_rows, front, more_front, row_of}
 use Rattle.nap_codes.proofs.next_code.next_control.Goals as goal
 
 pub returns-then-control-eq27 : goal.returns-then-control-eq27

@@ -1,5 +1,4 @@
-use Rattle.nap_command.proofs.Common.{Consumes-trans, err_from_is_err_and, take, ◌++◌}
-use Rattle.nap_command.proofs.CommandLemmas.{flag_stays}
+use Rattle.nap_command.proofs.{CommandLemmas.flag_stays, Consumes-trans, err_from_is_err_and, take, ◌++◌}
 use Rattle.nap_command.proofs.device.read_whole.Goals as goal
 
 pub returns-in_err-extend_from_slice-clause-read : goal.returns-in_err-extend_from_slice-clause-read

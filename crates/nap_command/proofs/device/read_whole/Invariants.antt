@@ -1,4 +1,4 @@
-use Rattle.nap_command.proofs.Common.{Consumes, READ_SIZE, length, ◌*◌, ◌+◌, ◌≡◌, ◌≤◌}
+use Rattle.nap_command.proofs.{Consumes, READ_SIZE, length, ◌*◌, ◌+◌, ◌≡◌, ◌≤◌}
 use Rattle.nap_command.proofs.device.read_whole.Given as goal
 
 abbrev pub invariant-loop : goal.invariant-loop

@@ -1,6 +1,4 @@
-use Rattle.nap_command.proofs.Common.{Appends-nil, Consumes, Consumes-nil, Err, Fails, Failure, Finds, List, MatchResult, [], arith, false, inl, inr, reading, reads_limit, refl, rules, sym, true, ℕ, ◌+◌, ◌∙◌, ◌≡◌, ◌≤◌}
-use Rattle.nap_command.proofs.CommandLemmas.{ends_printing, ends_whole}
-use Rattle.nap_command.proofs.execution.execute.Goals.{then-command-3, else-command-3}
+use Rattle.nap_command.proofs.{Appends-nil, CommandLemmas.ends_printing, CommandLemmas.ends_whole, Consumes, Consumes-nil, Err, Fails, Failure, Finds, List, MatchResult, [], arith, execution.execute.Goals.else-command-3, execution.execute.Goals.then-command-3, false, inl, inr, reading, reads_limit, refl, rules, sym, true, ℕ, ◌+◌, ◌∙◌, ◌≡◌, ◌≤◌}
 use Rattle.nap_command.proofs.execution.execute.Goals as goal
 
 -- hexadecimal text isn't converted
@@ -48,8 +46,8 @@ returns g c =
       printed = sent;
       reported = reported;
       few = few;
-      ends = ends_whole command p seen q failed ended c.if-command.false (λ is. search rules) ends;
-      stops = λ streams. let bad : ⊥ = cc (c.if-command.false, streams) in absurd bad;
+      ends = ends_whole command p seen q failed ended ends c.if-command.false (λ is. search rules);
+      stops = λ streams. cc (c.if-command.false, streams);
       sends = λ works. inl (c.print_found-output.ensures.sends works);
       flushes = rw c.if-command.false c.print_found-output.ensures.flushes;
       tells = tells;

@@ -1,6 +1,5 @@
-use Rattle.nap_command.proofs.Common.{FailsToMake, reading}
+use Rattle.nap_command.proofs.{CommandLemmas.ends_printing, FailsToMake, reading}
 use Rattle.nap_command.specs.Making.{FindsPage}
-use Rattle.nap_command.proofs.CommandLemmas.{ends_printing}
 use Rattle.nap_command.proofs.execution.execute_make.Goals as goal
 
 pub returns : goal.returns

@@ -1,5 +1,4 @@
-use Rattle.nap_command.proofs.Common.{Bool, Err, List, TakesText, ap, false, subst, sym, true, ℕ, ◌||◌, ◌∙◌, ◌≡◌}
-use Rattle.nap_command.proofs.CommandLemmas.{none_written_amiss, printed_partly}
+use Rattle.nap_command.proofs.{CommandLemmas.none_written_amiss, CommandLemmas.printed_partly, Err, TakesText, ap, false, subst, sym, true, ◌||◌, ◌∙◌, ◌≡◌}
 use Rattle.nap_command.proofs.execution.print_found.Goals as goal
 
 pub returns-in-Ok : goal.returns-in-Ok
@@ -8,8 +7,8 @@ returns-in-Ok g c =
     let old = g.O.Outlet.taken c.args.output in
     let new = g.O.Outlet.taken c.write_whole.new.output in
     let fault = c.in-Err-write_whole.fault in
-    let takes = subst (λ (text : List ℕ). TakesText old new text (Err fault)) c.as_slice.ensures.value write.takes in
-    let failed = write.failed ∙ ap (λ (x : Bool). x || true) c.requires in
+    let takes = subst (λ text. TakesText old new text (Err fault)) c.as_slice.ensures.value write.takes in
+    let failed = write.failed ∙ ap (λ x. x || true) c.requires in
     record {
       ends = rw (c.in-Ok.is) (printed_partly _ _ old new _ fault takes failed);
       flushes = write.flushes (none_written_amiss _ _ (g.met.O.Outlet.fails_by_write c.args.output) c.requires);
@@ -19,4 +18,4 @@ returns-in-Ok g c =
 pub returns-clause-ends : goal.returns-clause-ends
 returns-clause-ends g c =
     let write = c.in-Err-write_whole-2.ensures in
-    rw (c.in-Err.is) (printed_partly _ _ _ _ _ c.in-Err-write_whole-2.fault write.takes (write.failed ∙ ap (λ (x : Bool). x || true) c.requires))
+    rw (c.in-Err.is) (printed_partly _ _ _ _ _ c.in-Err-write_whole-2.fault write.takes (write.failed ∙ ap (λ x. x || true) c.requires))

@@ -1,4 +1,4 @@
-use Rattle.nap_command.proofs.Common.{Appends-nil, [], refl}
+use Rattle.nap_command.proofs.{Appends-nil, [], refl}
 use Rattle.nap_command.proofs.execution.report_end.Goals as goal
 
 pub returns-in-Ok : goal.returns-in-Ok

@@ -1,6 +1,5 @@
-use Rattle.nap_command.proofs.Common.{arith, refl, vec_capacity}
-use Rattle.nap_command.proofs.CommandLemmas.{none_written_amiss}
-use Rattle.nap_command.proofs.ListingLemmas.{ends, flushes_once, leaves}
+use Rattle.nap_command.proofs.{arith, refl, vec_capacity}
+use Rattle.nap_command.proofs.CommandLemmas.{ends, flushes_once, leaves, none_written_amiss}
 use Rattle.nap_command.proofs.listing.print_lines.Goals as goal
 
 pub returns : goal.returns

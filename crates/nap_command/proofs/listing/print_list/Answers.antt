@@ -1,5 +1,5 @@
-use Rattle.nap_command.proofs.Common.{EndsPrinting, Err, Fails, Finds, arith, count_of, length, reading, subst, ℕ, ◌≡◌}
-use Rattle.nap_command.proofs.CommandLemmas.{ends_printing, nothing_printed}
+use Rattle.nap_command.proofs.{CommandLemmas.ends_printing, CommandLemmas.nothing_printed, Err, Fails, Finds, arith, count_of, length, reading, subst, ◌≡◌}
+use Rattle.nap_command.specs.Commands.{EndsPrinting}
 use Rattle.nap_command.proofs.listing.print_list.Goals as goal
 
 pub returns-in-Ok-clause-ends : goal.returns-in-Ok-clause-ends
@@ -19,4 +19,4 @@ returns-in-Err-clause-ends g c =
     let ended = c.print_found.result.1 in
     let none = nothing_printed q b (Err c.in-Err.failure) ended printed in
     let same : length q ≡ count_of q = rw none (omega arith) in
-    (p, q, read, sent, subst (λ (size : ℕ). EndsPrinting finds fails size q b ended) same (ends_printing finds fails (Err c.in-Err.failure) q b ended failing printed))
+    (p, q, read, sent, subst (λ size. EndsPrinting finds fails size q b ended) same (ends_printing finds fails (Err c.in-Err.failure) q b ended failing printed))

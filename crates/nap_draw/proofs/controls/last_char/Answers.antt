@@ -1,4 +1,4 @@
-use Rattle.nap_draw.proofs.Common.{arith, format_effector_front}
+use Rattle.nap_draw.proofs.{arith, format_effector_front}
 use Rattle.nap_draw.proofs.controls.last_char.Goals as goal
 
 pub returns-then-code-lt32 : goal.returns-then-code-lt32

@@ -1,4 +1,4 @@
-use Rattle.nap_draw.proofs.Common.{List, [], ap, ap₂, arith, get_or, get_or_read, length, length-set, map, map-append, sym, take, take_more, take_more_set, ℕ, ◌%◌, ◌++◌, ◌<◌, ◌∙◌, ◌∷◌, ◌≡◌}
+use Rattle.nap_draw.proofs.{List, [], ap, ap₂, arith, get_or, get_or_read, length, length-set, map, map-append, sym, take, take_more, take_more_set, ℕ, ◌%◌, ◌++◌, ◌<◌, ◌∙◌, ◌∷◌, ◌≡◌}
 use Rattle.nap_draw.proofs.copied.word_bytes.Goals as goal
 
 pub loop-at-preserved : goal.loop-at-preserved

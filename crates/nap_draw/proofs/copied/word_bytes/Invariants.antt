@@ -1,4 +1,4 @@
-use Rattle.nap_draw.proofs.Common.{length, operand_words, run_limit, take, ◌≡◌}
+use Rattle.nap_draw.proofs.{length, operand_words, run_limit, take, ◌≡◌}
 use Rattle.nap_draw.proofs.copied.word_bytes.Given as goal
 
 abbrev pub invariant-loop-at : goal.invariant-loop-at

@@ -1,5 +1,4 @@
-use Rattle.nap_draw.proofs.Common.{length, true, ◌≡◌}
-use Rattle.nap_draw.proofs.Counting.{Along}
+use Rattle.nap_draw.proofs.{Execution.Along, length, true, ◌≡◌}
 use Rattle.nap_draw.proofs.counted.end_of_steps.Given as goal
 
 -- the points so far, if all are on the unit screen

@@ -1,6 +1,5 @@
-use Rattle.nap_draw.proofs.Common.{List, [], ap, arith, chunks_rest, chunks_size, nat_tests, point_at, subst, sym, ℕ, ◌∙◌}
-use Rattle.nap_draw.proofs.ByteRuns.{moves_chunk}
-use Rattle.nap_draw.proofs.Counting.{Spelt, spelt_ends, spelt_more, spelt_starts}
+use Rattle.nap_draw.proofs.{List, Runs.bytes_chunk, [], ap, arith, chunks_rest, chunks_size, nat_tests, point_at, subst, sym, ℕ, ◌∙◌}
+use Rattle.nap_draw.proofs.Execution.{Spelt, spelt_ends, spelt_more, spelt_starts}
 use Rattle.nap_draw.proofs.counted.last_of_points.Goals as goal
 
 pub loop-operand-init : goal.loop-operand-init
@@ -18,7 +17,7 @@ pub loop-operand-preserved : goal.loop-operand-preserved
 loop-operand-preserved c =
     let inv = c.loop-operand.invariant in
     let steps = c.in-Some.ensures.steps in
-    let cut = moves_chunk c.args.domain.multi _ _ _ _ inv.size (omega (arith, c.multi.ensures.value, c.multi.ensures.least)) steps.1.0 steps.1.1 steps.1.2 in
+    let cut = bytes_chunk _ _ inv.size c.multi.ensures.value c.multi.ensures.least steps.1 in
     record {
       can = omega (arith, steps.0, inv.can);
       finite = tt;
@@ -29,5 +28,4 @@ loop-operand-preserved c =
 
 pub returns : goal.returns
 returns c =
-    let inv = c.loop-operand.invariant in
-    spelt_ends c.args.domain.multi c.args.run.now _ c.loop-operand.last.now _ (grind (arith, nat_tests)) c.in-None.ensures.steps.1.0 (c.point.ensures ∙ ap point_at c.multi_bytes.ensures) (inv.spelt c.if-not-inside.false)
+    spelt_ends c.args.domain.multi c.args.run.now _ c.loop-operand.last.now _ (grind (arith, nat_tests)) c.in-None.ensures.steps.1.0 (c.point.ensures ∙ ap point_at c.multi_bytes.ensures) (c.loop-operand.invariant.spelt c.if-not-inside.false)

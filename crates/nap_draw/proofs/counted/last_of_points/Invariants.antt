@@ -1,5 +1,4 @@
-use Rattle.nap_draw.proofs.Common.{chunks_rest, chunks_size, length, true, ◌≡◌, ◌≤◌}
-use Rattle.nap_draw.proofs.Counting.{Spelt}
+use Rattle.nap_draw.proofs.{Execution.Spelt, chunks_rest, chunks_size, length, true, ◌≡◌, ◌≤◌}
 use Rattle.nap_draw.proofs.counted.last_of_points.Given as goal
 
 abbrev pub invariant-loop-operand : goal.invariant-loop-operand

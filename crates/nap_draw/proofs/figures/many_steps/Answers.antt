@@ -1,6 +1,4 @@
-use Rattle.nap_draw.proofs.Common.{arith}
-use Rattle.nap_draw.proofs.Cuts.{more_than}
-use Rattle.nap_draw.proofs.ByteRuns.{carried_length}
+use Rattle.nap_draw.proofs.{Runs.carried_length, Runs.more_than, arith}
 use Rattle.nap_draw.proofs.figures.many_steps.Goals as goal
 
 pub returns : goal.returns

@@ -1,6 +1,4 @@
-use Rattle.nap_draw.proofs.Common.{arith}
-use Rattle.nap_draw.proofs.Cuts.{moves_count_is}
-use Rattle.nap_draw.proofs.ByteRuns.{carried_length}
+use Rattle.nap_draw.proofs.{Runs.carried_length, Runs.moves_count_is, arith}
 use Rattle.nap_draw.proofs.operands.operand_count.Goals as goal
 
 pub returns : goal.returns

@@ -1,4 +1,4 @@
-use Rattle.nap_draw.proofs.Common.{operand_words, unwrap_or-slice_get, ◌∙◌}
+use Rattle.nap_draw.proofs.{operand_words, unwrap_or-slice_get, ◌∙◌}
 use Rattle.nap_draw.proofs.operands.word_at.Goals as goal
 
 pub returns : goal.returns

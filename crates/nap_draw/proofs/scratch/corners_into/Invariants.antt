@@ -1,4 +1,4 @@
-use Rattle.nap_draw.proofs.Common.{Coordinates, Filling, Holding, List, chunks_rest, chunks_size, length, moves, operand_words, rect_chain_spans, rect_spans, ◌++◌, ◌≡◌}
+use Rattle.nap_draw.proofs.{Coordinates, Filling, Holding, List, chunks_rest, chunks_size, length, moves, operand_words, rect_chain_spans, rect_spans, ◌++◌, ◌≡◌}
 use Rattle.nap_draw.proofs.scratch.corners_into.Given as goal
 
 abbrev pub invariant-loop-operand : goal.invariant-loop-operand

@@ -1,11 +1,10 @@
-use Rattle.nap_draw.proofs.Common.{ap, arith, moves, operand_words, points_reached, sym}
-use Rattle.nap_draw.proofs.Decoding.{filling_begins}
+use Rattle.nap_draw.proofs.{Execution.filling_begins, ap, arith, moves, operand_words, points_reached, sym}
 use Rattle.nap_draw.proofs.scratch.fill_any_steps.Goals as goal
 
 pub returns-then-multi-ne3-clause-fills : goal.returns-then-multi-ne3-clause-fills
 returns-then-multi-ne3-clause-fills c =
     let begins = ap (λ p. points_reached p (moves c.args.domain.multi (operand_words c.args.run.now))) (sym c.from_point.ensures) in
-    c.fill_more_steps.ensures.fills _ (filling_begins _ _ _ _ begins c.reset_scratch-full.ensures.items)
+    c.fill_more_steps.ensures.fills _ (filling_begins _ begins c.reset_scratch-full.ensures.items)
 
 pub returns-then-multi-ne3-clause-memory : goal.returns-then-multi-ne3-clause-memory
 returns-then-multi-ne3-clause-memory c = grind arith

@@ -1,5 +1,4 @@
-use Rattle.nap_draw.proofs.Common.{arith}
-use Rattle.nap_draw.proofs.Decoding.{filling_four}
+use Rattle.nap_draw.proofs.{Execution.filling_four, arith}
 use Rattle.nap_draw.proofs.scratch.fill_by_four.Goals as goal
 
 pub loop-rest-preserved : goal.loop-rest-preserved

@@ -1,5 +1,4 @@
-use Rattle.nap_draw.proofs.Common.{moves, operand_words, points_reached, length, ◌≡◌}
-use Rattle.nap_draw.proofs.Decoding.{Threes}
+use Rattle.nap_draw.proofs.{Execution.Threes, length, moves, operand_words, points_reached, ◌≡◌}
 use Rattle.nap_draw.proofs.scratch.fill_by_four.Given as goal
 
 abbrev pub invariant-loop-rest : goal.invariant-loop-rest

@@ -1,6 +1,5 @@
-use Rattle.nap_draw.proofs.Common.{Filling, List, [], ap, arith, chunks_rest, chunks_size, displaced_point, inl, inr, length, moves, operand_words, points_reached, subst, sym, ℕ, ◌++◌, ◌∙◌, ◌∷◌, ◌≡◌}
-use Rattle.nap_draw.proofs.ByteRuns.{moves_chunk, moves_none}
-use Rattle.nap_draw.proofs.Decoding.{chunk_less, filled, filling_more, filling_none, lacks_if, lacks_more, moved, moved_none, pushed, still_kept}
+use Rattle.nap_draw.proofs.{Filling, List, Runs.bytes_chunk, Runs.bytes_none, [], ap, arith, chunks_rest, chunks_size, displaced_point, inl, inr, length, moves, operand_words, points_reached, subst, sym, ℕ, ◌++◌, ◌∙◌, ◌∷◌, ◌≡◌}
+use Rattle.nap_draw.proofs.Execution.{chunk_less, filled, filling_more, filling_none, lacks_if, lacks_more, moved, moved_none, pushed, still_kept}
 use Rattle.nap_draw.proofs.scratch.fill_more_steps.Goals as goal
 
 pub loop-operand-init : goal.loop-operand-init
@@ -19,16 +18,15 @@ loop-operand-init c =
 pub returns-in_default-clause-fills : goal.returns-in_default-clause-fills
 returns-in_default-clause-fills c =
     let inv = c.loop-operand.invariant in
-    let steps = c.in-Some.ensures.steps in
-    let cut = moves_chunk c.args.domain.multi _ _ _ _ inv.size (omega (arith, c.multi.ensures.value, c.multi.ensures.least)) steps.1.0 steps.1.1 steps.1.2 in
-    λ all begins. filling_none _ _ _ _ (inv.filling all begins) (moved_none _ c.loop-operand.walk _ _ _ _ cut (c.advance.ensures.point ∙ ap (displaced_point c.loop-operand.walk) c.multi_bytes.ensures) c.in_default.is)
+    let cut = bytes_chunk _ _ inv.size c.multi.ensures.value c.multi.ensures.least c.in-Some.ensures.steps.1 in
+    λ all begins. filling_none (inv.filling all begins) (moved_none _ c.loop-operand.walk cut (c.advance.ensures.point ∙ ap (displaced_point c.loop-operand.walk) c.multi_bytes.ensures) c.in_default.is)
 
 pub loop-operand-preserved : goal.loop-operand-preserved
 loop-operand-preserved c =
     let inv = c.loop-operand.invariant in
     let steps = c.in-Some.ensures.steps in
-    let cut = moves_chunk c.args.domain.multi _ _ _ _ inv.size (omega (arith, c.multi.ensures.value, c.multi.ensures.least)) steps.1.0 steps.1.1 steps.1.2 in
-    let less = chunk_less c.args.domain.multi _ _ _ _ inv.size (omega (arith, c.multi.ensures.value, c.multi.ensures.least)) steps.1.0 steps.1.1 steps.1.2 in
+    let cut = bytes_chunk _ _ inv.size c.multi.ensures.value c.multi.ensures.least steps.1 in
+    let less = chunk_less _ _ inv.size c.multi.ensures.value c.multi.ensures.least steps.1 in
     record {
       can = omega (arith, steps.0, inv.can);
       finite = tt;
@@ -36,15 +34,15 @@ loop-operand-preserved c =
       space = omega (arith, inv.space, c.push.ensures.capacity);
       few = omega (arith, inv.few, less, c.push.ensures.upper_bound);
       memory = lacks_more c.push.result _ _ inv.memory c.is_err-full.ensures.value (λ e. inr (omega (arith, inv.few, inv.space, less, e))) c.push.ensures.full;
-      filling = λ all begins. filling_more _ _ _ c.in-Some-advance.point _ _ _ _ (inv.filling all begins)
-          (rw c.in-Some-advance.is at (moved _ _ _ _ _ _ cut (c.advance.ensures.point ∙ ap (displaced_point c.loop-operand.walk) c.multi_bytes.ensures) c.advance.ensures.place))
+      filling = λ all begins. filling_more c.in-Some-advance.point (inv.filling all begins)
+          (rw c.in-Some-advance.is at (moved _ _ cut (c.advance.ensures.point ∙ ap (displaced_point c.loop-operand.walk) c.multi_bytes.ensures) c.advance.ensures.place))
           (still_kept _ _)
           (λ prefix e kept. pushed _ _ _ _ _ _ c.push.ensures.items c.is_err-full.ensures.value e ∙ ap (λ l. l ++ c.in-Some-advance.point ∷ []) kept);
     }
 
 pub returns-clause-fills : goal.returns-clause-fills
 unfolding points_reached
-returns-clause-fills c = λ all begins. filled _ _ _ _ _ _ (c.loop-operand.invariant.filling all begins) (ap (points_reached _) (moves_none _ _ c.in-None.ensures.steps.1.0)) (λ prefix kept. kept) c.memory_fault_if.ensures.ok c.memory_fault_if.ensures.err
+returns-clause-fills c = λ all begins. filled _ _ (c.loop-operand.invariant.filling all begins) (ap (points_reached _) (bytes_none _ _ c.in-None.ensures.steps.1.0)) (λ prefix kept. kept) c.memory_fault_if.ensures.ok c.memory_fault_if.ensures.err
 
 pub returns-clause-memory : goal.returns-clause-memory
 returns-clause-memory c = lacks_if _ _ c.loop-operand.invariant.memory c.memory_fault_if.ensures.err

@@ -1,4 +1,4 @@
-use Rattle.nap_draw.proofs.Common.{Coordinates, Filling, List, Option, chunks_rest, chunks_size, length, moves, operand_words, points_reached, true, vec_capacity, vec_len, ◌+◌, ◌<◌, ◌≡◌, ◌≤◌, ◌⊎◌}
+use Rattle.nap_draw.proofs.{Coordinates, Filling, List, Option, chunks_rest, chunks_size, length, moves, operand_words, points_reached, true, vec_capacity, vec_len, ◌+◌, ◌<◌, ◌≡◌, ◌≤◌, ◌⊎◌}
 use Rattle.nap_draw.proofs.scratch.fill_more_steps.Given as goal
 
 abbrev pub invariant-loop-operand : goal.invariant-loop-operand

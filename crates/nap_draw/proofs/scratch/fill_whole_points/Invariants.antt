@@ -1,5 +1,4 @@
-use Rattle.nap_draw.proofs.Common.{moves, operand_words, points_at, length, ◌≡◌}
-use Rattle.nap_draw.proofs.Decoding.{Threes}
+use Rattle.nap_draw.proofs.{Execution.Threes, length, moves, operand_words, points_at, ◌≡◌}
 use Rattle.nap_draw.proofs.scratch.fill_whole_points.Given as goal
 
 abbrev pub invariant-loop-block : goal.invariant-loop-block

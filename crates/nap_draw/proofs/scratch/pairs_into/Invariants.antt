@@ -1,4 +1,4 @@
-use Rattle.nap_draw.proofs.Common.{Filling, Holding, chunks_rest, chunks_size, length, moves, operand_words, relative_spans, span_ends, ◌≡◌}
+use Rattle.nap_draw.proofs.{Filling, Holding, chunks_rest, chunks_size, length, moves, operand_words, relative_spans, span_ends, ◌≡◌}
 use Rattle.nap_draw.proofs.scratch.pairs_into.Given as goal
 
 abbrev pub invariant-loop-first : goal.invariant-loop-first

@@ -1,4 +1,4 @@
-use Rattle.nap_draw.proofs.Common.{Filling, Holding, chunks_rest, chunks_size, length, moves, operand_words, points_at, ◌≡◌}
+use Rattle.nap_draw.proofs.{Filling, Holding, chunks_rest, chunks_size, length, moves, operand_words, points_at, ◌≡◌}
 use Rattle.nap_draw.proofs.scratch.points_into.Given as goal
 
 abbrev pub invariant-loop-operand : goal.invariant-loop-operand

@@ -1,6 +1,4 @@
-use Rattle.nap_draw.proofs.Common.{arith, operand_words}
-use Rattle.nap_draw.proofs.ByteRuns.{carried_length, carried_rest, words_prefix}
-use Rattle.nap_draw.proofs.Walks.{blink_made}
+use Rattle.nap_draw.proofs.{Runs.carried_length, Runs.carried_rest, Runs.words_prefix, Walks.blink_made, arith, operand_words}
 use Rattle.nap_draw.proofs.times.blink_of.Goals as goal
 
 pub returns : goal.returns

@@ -1,5 +1,5 @@
-use Rattle.nap_lines.proofs.Common.{Pen, ap, arith, hand_of, map, point_entry, polyline_entries, sized_lines, sized_points, sized_text, text_entries_in}
-use Rattle.nap_lines.proofs.BatchLemmas.{lines_part, part_written, points_part, text_part}
+use Rattle.nap_lines.proofs.{ap, arith, hand_of, sized_lines, sized_points, sized_text}
+use Rattle.nap_lines.proofs.WritingLemmas.{lines_part, part_written, points_part, text_part}
 use Rattle.nap_lines.proofs.batch.write_batch.Goals as goal
 
 pub slice_part-requires : goal.slice_part-requires
@@ -17,23 +17,20 @@ slice_part-requires-in-Text c = omega (arith, c.requires, sized_text _ _ _ _ _ c
 pub returns-in-Points : goal.returns-in-Points
 returns-in-Points c =
     let h = c.write_point_lines.ensures in
-    let now = part_written c.slice_part.result.now c.in-Points.points.now (map (point_entry c.in-Points.drawing.now) c.slice_part.result.now) _ _ _ _ c.args.text.now c.write_point_lines.new.text c.slice_part.ensures (sized_points _ _ _ c.in-Points.is) c.requires
-    (points_part _ _ _ _ _ _ c.in-Points.is c.slice_part.ensures) h.count h.text h.memory in
-    record { count = now.0; text = now.1.0; memory = now.1.1 }
+    part_written c.in-Points.points.now _ _ _ _ c.args.text.now c.write_point_lines.new.text c.slice_part.ensures (sized_points _ _ _ c.in-Points.is) c.requires
+    (points_part _ _ _ _ _ _ c.in-Points.is c.slice_part.ensures) h.count h.text h.memory
 
 pub returns-in-Lines : goal.returns-in-Lines
 returns-in-Lines c =
     let h = c.write_line_lines.ensures in
     let few = c.slice_part-in-Lines in
-    let now = part_written few.result.now c.in-Lines.points.now (polyline_entries c.in-Lines.drawing.now c.line_start-from.result few.result.now) _ _ _ _ c.args.text.now c.write_line_lines.new.text few.ensures (sized_lines _ _ _ _ c.in-Lines.is) c.requires
-    (lines_part _ _ _ _ _ _ _ _ c.in-Lines.is c.line_start-from.ensures few.ensures) h.count h.text h.memory in
-    record { count = now.0; text = now.1.0; memory = now.1.1 }
+    part_written c.in-Lines.points.now _ _ _ _ c.args.text.now c.write_line_lines.new.text few.ensures (sized_lines _ _ _ _ c.in-Lines.is) c.requires
+    (lines_part _ _ _ _ _ _ _ _ c.in-Lines.is c.line_start-from.ensures few.ensures) h.count h.text h.memory
 
 pub returns-in-Text : goal.returns-in-Text
 returns-in-Text c =
     let h = c.write_text_lines.ensures in
     let few = c.slice_part-in-Text in
-    let hand = ap (λ (pen : Pen). record (hand_of c.in-Text.drawing.now) { pen = pen }) c.pen_at.ensures in
-    let now = part_written few.result.now c.in-Text.codes.now (text_entries_in c.in-Text.set _ few.result.now) _ _ _ _ c.args.text.now c.write_text_lines.new.text few.ensures (sized_text _ _ _ _ _ c.in-Text.is) c.requires
-    (text_part _ _ _ _ _ _ _ _ _ c.in-Text.is hand few.ensures) h.count h.text h.memory in
-    record { count = now.0; text = now.1.0; memory = now.1.1 }
+    let hand = ap (λ pen. record (hand_of c.in-Text.drawing.now) { pen = pen }) c.pen_at.ensures in
+    part_written c.in-Text.codes.now _ _ _ _ c.args.text.now c.write_text_lines.new.text few.ensures (sized_text _ _ _ _ _ c.in-Text.is) c.requires
+    (text_part _ _ _ _ _ _ _ _ _ c.in-Text.is hand few.ensures) h.count h.text h.memory

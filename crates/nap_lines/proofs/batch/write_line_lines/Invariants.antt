@@ -1,4 +1,4 @@
-use Rattle.nap_lines.proofs.Common.{Coordinates, List, [], codes, drop, ink_of, ink_text, length, line_limit, lines, point_text, polyline_entries, take, vec_capacity, vec_len, ℕ, ◌*◌, ◌++◌, ◌+◌, ◌∷◌, ◌≡◌, ◌≤◌}
+use Rattle.nap_lines.proofs.{Coordinates, List, [], codes, drop, ink_of, ink_text, length, line_limit, lines, point_text, polyline_entries, take, vec_capacity, vec_len, ℕ, ◌*◌, ◌++◌, ◌+◌, ◌∷◌, ◌≡◌, ◌≤◌}
 use Rattle.nap_lines.proofs.batch.write_line_lines.Given as goal
 
 abbrev pub invariant-loop-to : goal.invariant-loop-to

@@ -1,6 +1,4 @@
-use Rattle.nap_lines.proofs.Common.{List, flat_map, length, line_limit, take, text_byte_front, vec_capacity, vec_len, ℕ, ◌*◌, ◌++◌, ◌+◌, ◌-◌, ◌≡◌, ◌≤◌}
-use Rattle.nap_lines.proofs.BatchLemmas.{char_start}
-use Rattle.nap_lines.proofs.BlockLemmas.{coded}
+use Rattle.nap_lines.proofs.{List, WritingLemmas.char_start, WritingLemmas.coded, flat_map, length, line_limit, take, text_byte_front, vec_capacity, vec_len, ℕ, ◌*◌, ◌++◌, ◌+◌, ◌-◌, ◌≡◌, ◌≤◌}
 use Rattle.nap_lines.proofs.batch.write_many.Given as goal
 
 abbrev pub invariant-loop-written : goal.invariant-loop-written

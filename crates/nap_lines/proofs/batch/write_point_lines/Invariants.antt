@@ -1,4 +1,4 @@
-use Rattle.nap_lines.proofs.Common.{List, ℕ, line_limit, lines, map, point_entry, take, vec_capacity, vec_len, ◌*◌, ◌++◌, ◌+◌, ◌≡◌, ◌≤◌}
+use Rattle.nap_lines.proofs.{List, ℕ, line_limit, lines, map, point_entry, take, vec_capacity, vec_len, ◌*◌, ◌++◌, ◌+◌, ◌≡◌, ◌≤◌}
 use Rattle.nap_lines.proofs.batch.write_point_lines.Given as goal
 
 abbrev pub invariant-loop-at : goal.invariant-loop-at

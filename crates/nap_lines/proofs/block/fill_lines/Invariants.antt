@@ -1,4 +1,4 @@
-use Rattle.nap_lines.proofs.Common.{filled, ◌≡◌}
+use Rattle.nap_lines.proofs.{filled, ◌≡◌}
 use Rattle.nap_lines.proofs.block.fill_lines.Given as goal
 
 -- i copies of the line

@@ -1,4 +1,4 @@
-use Rattle.nap_lines.proofs.Common.{List, [], ap, append_assoc, arith, code_text, digit_char, drop, set, sets-eq, suc, take, ℕ, ◌++◌, ◌+◌, ◌/◌, ◌∙◌, ◌∷◌, ◌≡◌}
+use Rattle.nap_lines.proofs.{[], ap, append_assoc, arith, code_text, drop, set, sets-eq, suc, take, ◌++◌, ◌+◌, ◌∙◌, ◌∷◌, ◌≡◌}
 use Rattle.nap_lines.proofs.block.put_code.Goals as goal
 
 pub returns : goal.returns
@@ -8,8 +8,8 @@ returns c =
     let high = c.digit.result in
     let low = c.digit-2.result in
     let next : at + 1 ≡ suc at = omega arith in
-    let digits : high ∷ low ∷ [] ≡ code_text c.args.code = ap (λ (x : ℕ). x ∷ low ∷ []) c.digit.ensures ∙ ap (λ (y : ℕ). digit_char (c.args.code / 16) ∷ y ∷ []) c.digit-2.ensures in
-    ap (λ (n : ℕ). set (set block at high) n low) next
+    let digits : high ∷ low ∷ [] ≡ code_text c.args.code = rw (c.digit.ensures, c.digit-2.ensures) in
+    ap (λ n. set (set block at high) n low) next
     ∙ sets-eq (high ∷ low ∷ []) block at (omega (arith, c.requires.within))
     ∙ append_assoc (take at block) (high ∷ low ∷ []) (drop (at + 2) block)
-    ∙ ap (λ (two : List ℕ). take at block ++ (two ++ drop (at + 2) block)) digits
+    ∙ ap (λ two. take at block ++ (two ++ drop (at + 2) block)) digits

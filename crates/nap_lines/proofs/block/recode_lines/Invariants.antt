@@ -1,4 +1,4 @@
-use Rattle.nap_lines.proofs.Common.{All, recoded, take, ◌≡◌, ◌≤◌}
+use Rattle.nap_lines.proofs.{All, recoded, take, ◌≡◌, ◌≤◌}
 use Rattle.nap_lines.proofs.block.recode_lines.Given as goal
 
 -- the digits of the first i codes

@@ -1,4 +1,4 @@
-use Rattle.nap_lines.proofs.Common.{IsUtf8, length, points_text, take, vec_capacity, vec_len, ◌*◌, ◌++◌, ◌+◌, ◌-◌, ◌≡◌, ◌≤◌}
+use Rattle.nap_lines.proofs.{IsUtf8, length, points_text, take, vec_capacity, vec_len, ◌*◌, ◌++◌, ◌+◌, ◌-◌, ◌≡◌, ◌≤◌}
 use Rattle.nap_lines.proofs.line.write_points.Given as goal
 
 abbrev pub invariant-loop-written : goal.invariant-loop-written

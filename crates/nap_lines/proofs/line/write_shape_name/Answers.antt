@@ -1,4 +1,4 @@
-use Rattle.nap_lines.proofs.Common.{IsUtf8-append, append_assoc, arith, common_steps}
+use Rattle.nap_lines.proofs.{IsUtf8-append, append_assoc, arith, common_steps}
 use Rattle.nap_lines.proofs.line.write_shape_name.Goals as goal
 
 pub returns-clause-appends : goal.returns-clause-appends

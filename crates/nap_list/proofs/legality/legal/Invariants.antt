@@ -1,4 +1,4 @@
-use Rattle.nap_list.proofs.Common.{AllFit, start, take, walk, ◌≡◌}
+use Rattle.nap_list.proofs.{AllFit, start, take, walk, ◌≡◌}
 use Rattle.nap_list.proofs.legality.legal.Given as goal
 
 -- the state after the entries so far, which fit

@@ -1,7 +1,5 @@
-use Rattle.nap_make.proofs.Common.{Displacement, ap₂, to_z-of_z, w32, ℤ}
-use Rattle.nap_make.proofs.CutLemmas.{both_written, no_byte, no_first, no_second, none_alike, written_alike}
-use Rattle.nap_make.proofs.AttributeLemmas.{move_pair, signs, move_tried}
-use Rattle.nap_make.proofs.NumberLemmas.{signed_fits}
+use Rattle.nap_make.proofs.{Displacement, ap₂, to_z-of_z, w32, ℤ}
+use Rattle.nap_make.proofs.ValueLemmas.{both_written, move_pair, move_tried, no_byte, no_first, no_second, none_alike, signed_fits, signs, written_alike}
 use Rattle.nap_make.proofs.attribute.displacement.Goals as goal
 
 abbrev two : ℤ → ℤ → Displacement
@@ -20,6 +18,6 @@ pub returns : goal.returns
 returns c =
     let x = c.in_ok-x-2.x in
     let y = c.in_ok-y.y in
-    let same = ap₂ (λ (a b : ℤ). two a b) (to_z-of_z w32 x (signed_fits x c.in_ok-x-2.ensures.fitting)) (to_z-of_z w32 y (signed_fits y c.in_ok-y.ensures.fitting)) in
-    move_tried c.args.bytes.now (two x y) _ c.try_new.result same
+    let same = ap₂ two (to_z-of_z w32 x (signed_fits x c.in_ok-x-2.ensures.fitting)) (to_z-of_z w32 y (signed_fits y c.in_ok-y.ensures.fitting)) in
+    move_tried c.try_new.result same
     (written_alike move_pair (two x y) (both_written signs c.in_ok-x.ensures c.in_ok-x-2.ensures c.in_ok-y.ensures)) c.try_new.ensures.found c.try_new.ensures.value

@@ -1,6 +1,5 @@
-use Rattle.nap_make.proofs.CutLemmas.{both_written, no_byte, no_first, no_second, none_alike, written_alike, reads_tried}
-use Rattle.nap_make.proofs.AttributeLemmas.{grb_triple, part_pair, part_triple}
-use Rattle.nap_make.proofs.Common.{Components, HasSixteenBitParts, grb_text}
+use Rattle.nap_make.proofs.ValueLemmas.{both_written, grb_triple, no_byte, no_first, no_second, none_alike, part_pair, part_triple, reads_tried, written_alike}
+use Rattle.nap_make.proofs.{Components}
 use Rattle.nap_make.proofs.attribute.grb.Goals as goal
 
 pub returns-in_err-g : goal.returns-in_err-g
@@ -21,4 +20,4 @@ returns-in_err-b c = rw (c.from_residual-in_err-b.ensures) (none_alike grb_tripl
 pub returns : goal.returns
 returns c =
     let k : Components = record { g = c.in_ok-g-2.g; r = c.in_ok-r-2.r; b = c.in_ok-b.b } in
-    reads_tried HasSixteenBitParts grb_text c.args.bytes.now k c.try_new.result (written_alike grb_triple k (both_written part_triple c.in_ok-g.ensures c.in_ok-g-2.ensures (both_written part_pair c.in_ok-r.ensures c.in_ok-r-2.ensures c.in_ok-b.ensures))) c.try_new.ensures.found c.try_new.ensures.value
+    reads_tried c.try_new.result (written_alike grb_triple k (both_written part_triple c.in_ok-g.ensures c.in_ok-g-2.ensures (both_written part_pair c.in_ok-r.ensures c.in_ok-r-2.ensures c.in_ok-b.ensures))) c.try_new.ensures.found c.try_new.ensures.value

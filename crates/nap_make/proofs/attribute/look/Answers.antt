@@ -1,5 +1,4 @@
-use Rattle.nap_make.proofs.CutLemmas.{both_written, no_byte, no_first, no_second, none_alike, written_alike}
-use Rattle.nap_make.proofs.AttributeLemmas.{look_parts, look_triple, size_modes}
+use Rattle.nap_make.proofs.ValueLemmas.{both_written, look_parts, look_triple, no_byte, no_first, no_second, none_alike, size_modes, written_alike}
 use Rattle.nap_make.proofs.attribute.look.Goals as goal
 
 pub returns-in_err-words : goal.returns-in_err-words

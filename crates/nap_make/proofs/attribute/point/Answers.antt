@@ -1,6 +1,4 @@
-use Rattle.nap_make.proofs.CutLemmas.{both_written, no_byte, no_first, no_second, none_alike, written_alike, reads_tried}
-use Rattle.nap_make.proofs.AttributeLemmas.{coordinates, point_pair}
-use Rattle.nap_make.proofs.Common.{IsInSquare, point_text}
+use Rattle.nap_make.proofs.ValueLemmas.{both_written, coordinates, no_byte, no_first, no_second, none_alike, point_pair, reads_tried, written_alike}
 use Rattle.nap_make.proofs.attribute.point.Goals as goal
 
 pub returns-in_err-x : goal.returns-in_err-x
@@ -14,7 +12,5 @@ returns-in_err-y c = rw (c.from_residual-in_err-y.ensures) (none_alike point_pai
 
 pub returns : goal.returns
 returns c =
-    let x = c.in_ok-x-2.x in
-    let y = c.in_ok-y.y in
-    reads_tried IsInSquare point_text c.args.bytes.now (record { x = x; y = y }) c.try_new.result
-    (written_alike point_pair (record { x = x; y = y }) (both_written coordinates c.in_ok-x.ensures c.in_ok-x-2.ensures c.in_ok-y.ensures)) c.try_new.ensures.found c.try_new.ensures.value
+    reads_tried c.try_new.result
+    (written_alike point_pair (record { x = c.in_ok-x-2.x; y = c.in_ok-y.y }) (both_written coordinates c.in_ok-x.ensures c.in_ok-x-2.ensures c.in_ok-y.ensures)) c.try_new.ensures.found c.try_new.ensures.value

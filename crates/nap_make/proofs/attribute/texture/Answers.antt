@@ -1,5 +1,4 @@
-use Rattle.nap_make.proofs.CutLemmas.{both_written, no_byte, no_first, no_second, none_alike, written_alike}
-use Rattle.nap_make.proofs.AttributeLemmas.{texture_pair, texture_parts}
+use Rattle.nap_make.proofs.ValueLemmas.{both_written, no_byte, no_first, no_second, none_alike, texture_pair, texture_parts, written_alike}
 use Rattle.nap_make.proofs.attribute.texture.Goals as goal
 
 pub returns-in_err-number : goal.returns-in_err-number

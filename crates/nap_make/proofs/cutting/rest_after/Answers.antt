@@ -1,4 +1,4 @@
-use Rattle.nap_make.proofs.Common.{Decides-eqb, strip_prefix_is}
+use Rattle.nap_make.proofs.{Decides-eqb, strip_prefix_is}
 use Rattle.nap_make.proofs.cutting.rest_after.Goals as goal
 
 pub returns : goal.returns

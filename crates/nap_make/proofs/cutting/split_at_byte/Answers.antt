@@ -1,6 +1,4 @@
-use Rattle.nap_make.proofs.Common.{arith, common_steps, ◌+◌}
-use Rattle.nap_make.proofs.CutLemmas.{no_split, one_more}
-use Rattle.nap_make.proofs.cutting.split_at_byte.Goals.{else-at-bytes-via-then-at-bytes+else-bytes-at-2, else-at-bytes-via-else-at-bytes}
+use Rattle.nap_make.proofs.{ValueLemmas.no_split, ValueLemmas.one_more, arith, common_steps, ◌+◌}
 use Rattle.nap_make.proofs.cutting.split_at_byte.Goals as goal
 
 pub returns-then-bytes-next : goal.returns-then-bytes-next
@@ -19,7 +17,7 @@ loop-at-preserved c = (
 pub returns : goal.returns
 returns c prefix back cuts =
     elim c.else-at-bytes.branch [
-      | else-at-bytes-via-then-at-bytes+else-bytes-at-2 w ↦ no_split c.args.byte c.args.bytes.now prefix back (c.loop-at.at + 1) c.loop-at-test.false
+      | goal.else-at-bytes-via-then-at-bytes+else-bytes-at-2 w ↦ no_split c.args.byte c.args.bytes.now prefix back (c.loop-at.at + 1) c.loop-at-test.false
           (one_more c.args.byte c.args.bytes.now c.loop-at.at w.if-at-bytes.true c.loop-at.invariant.1 w.if-bytes-at-2.false) cuts.joins
-      | else-at-bytes-via-else-at-bytes w ↦ no_split c.args.byte c.args.bytes.now prefix back c.loop-at.at w.if-at-bytes.false c.loop-at.invariant.1 cuts.joins
+      | goal.else-at-bytes-via-else-at-bytes w ↦ no_split c.args.byte c.args.bytes.now prefix back c.loop-at.at w.if-at-bytes.false c.loop-at.invariant.1 cuts.joins
     ]

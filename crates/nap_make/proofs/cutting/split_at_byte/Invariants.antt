@@ -1,4 +1,4 @@
-use Rattle.nap_make.proofs.Common.{All, length, take, ◌-◌, ◌≢◌, ◌≤◌}
+use Rattle.nap_make.proofs.{All, length, take, ◌-◌, ◌≢◌, ◌≤◌}
 use Rattle.nap_make.proofs.cutting.split_at_byte.Given as goal
 
 abbrev pub invariant-loop-at : goal.invariant-loop-at

@@ -1,4 +1,4 @@
-use Rattle.nap_make.proofs.EntryLemmas.{step_fields}
+use Rattle.nap_make.proofs.FieldLemmas.{step_fields}
 use Rattle.nap_make.proofs.entry.plain_move.Goals as goal
 
 pub returns : goal.returns

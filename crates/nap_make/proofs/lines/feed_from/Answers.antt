@@ -1,4 +1,4 @@
-use Rattle.nap_make.proofs.Common.{Bool, Consumes, Consumes-kept, Consumes-trans, List, [], ap, append-nil, arith, err_from_is_err_and, false, inl, inr, length, length-append, or-false, or-true, subst, take, ℕ, ◌++◌, ◌||◌, ◌∙◌, ◌≡◌}
+use Rattle.nap_make.proofs.{Bool, Consumes, Consumes-kept, Consumes-trans, [], ap, append-nil, arith, err_from_is_err_and, false, inl, inr, length, length-append, or-false, or-true, subst, take, ◌++◌, ◌||◌, ◌∙◌, ◌≡◌}
 use Rattle.nap_make.proofs.lines.feed_from.Goals as goal
 
 -- a call that doesn't fail keeps the flag
@@ -27,8 +27,8 @@ pub returns-then-count-eq0-clause-feeds : goal.returns-then-count-eq0-clause-fee
 returns-then-count-eq0-clause-feeds g c =
     let (p, read, gave, has_read) = c.loop.invariant.read in
     let piece = take c.in-Ok.count c.read.new.room in
-    let none : piece ≡ [] = ap (λ (n : ℕ). take n c.read.new.room) c.if-count-eq0.true in
-    let same : p ++ piece ≡ p = ap (λ (bytes : List ℕ). p ++ bytes) none ∙ append-nil p in (
+    let none : piece ≡ [] = ap (λ n. take n c.read.new.room) c.if-count-eq0.true in
+    let same : p ++ piece ≡ p = ap (p ++◌) none ∙ append-nil p in (
       p,
       subst (Consumes (g.I.Inlet.left c.args.input.now) (g.I.Inlet.left c.read.new.self)) same (Consumes-trans _ _ _ p piece read c.in-Ok.ensures.bytes.0),
       λ s h. (

@@ -1,4 +1,4 @@
-use Rattle.nap_make.proofs.Common.{Consumes, HasReadLines, IsReady, List, [], length, ℕ, ◌+◌, ◌≡◌, ◌≤◌}
+use Rattle.nap_make.proofs.{Consumes, HasReadLines, IsReady, List, [], length, ℕ, ◌+◌, ◌≡◌, ◌≤◌}
 use Rattle.nap_make.proofs.lines.feed_from.Given as goal
 
 abbrev pub invariant-loop : goal.invariant-loop

@@ -1,5 +1,4 @@
-use Rattle.nap_make.proofs.Common.{Err, Makes, MakesList, reading, subst, sym}
-use Rattle.nap_make.proofs.PageLemmas.{makes_none}
+use Rattle.nap_make.proofs.{Err, Makes, MakesList, PageLemmas.makes_none, Common.reading, subst, sym}
 use Rattle.nap_make.proofs.lines.make_list.Goals as goal
 
 pub returns-in-Err-clause-makes : goal.returns-in-Err-clause-makes

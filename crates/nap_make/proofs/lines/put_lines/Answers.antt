@@ -1,5 +1,4 @@
-use Rattle.nap_make.proofs.Common.{Err, PutsLines, [], subst, sym}
-use Rattle.nap_make.proofs.PageLemmas.{puts_all, puts_none}
+use Rattle.nap_make.proofs.{Err, PageLemmas.puts_all, PageLemmas.puts_none, PutsLines, [], subst, sym}
 use Rattle.nap_make.proofs.lines.put_lines.Goals as goal
 
 pub returns-in-Err : goal.returns-in-Err

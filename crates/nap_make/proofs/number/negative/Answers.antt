@@ -1,5 +1,4 @@
-use Rattle.nap_make.proofs.Common.{arith, suc}
-use Rattle.nap_make.proofs.NumberLemmas.{same_number, low_neg}
+use Rattle.nap_make.proofs.{ValueLemmas.low_neg, ValueLemmas.same_number, arith, suc}
 use Rattle.nap_make.proofs.number.negative.Goals as goal
 
 pub returns-in_err-size : goal.returns-in_err-size
@@ -8,5 +7,5 @@ returns-in_err-size c = rw (c.from_residual.ensures) (λ n fits is. c.in_err-siz
 pub returns-then-size-eq0 : goal.returns-then-size-eq0
 returns-then-size-eq0 c n fits is =
     let low = low_neg n fits in
-    let same = same_number c.args.digits.now _ (suc n) c.in_ok-size.ensures.written is (omega (arith, c.in_ok-size.ensures.fitting)) (omega (arith, low)) in
+    let same = same_number c.in_ok-size.ensures.written is (omega (arith, c.in_ok-size.ensures.fitting)) (omega (arith, low)) in
     omega (arith, same, c.if-size-eq0.true)

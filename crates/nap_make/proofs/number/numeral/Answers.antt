@@ -1,5 +1,4 @@
-use Rattle.nap_make.proofs.Common.{arith, digit_from_value, digit_value_digit, digits_more, digits_value_more, get_or}
-use Rattle.nap_make.proofs.NumberLemmas.{digit_at, small}
+use Rattle.nap_make.proofs.{ValueLemmas.digit_at, ValueLemmas.small, arith, digit_from_value, digit_value_digit, digits_more, digits_value_more, get_or}
 use Rattle.nap_make.proofs.number.numeral.Goals as goal
 
 pub returns-then-not-is_ascii_digit : goal.returns-then-not-is_ascii_digit

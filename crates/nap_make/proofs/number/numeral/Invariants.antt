@@ -1,4 +1,4 @@
-use Rattle.nap_make.proofs.Common.{AllDigits, digits_value, take, ◌≡◌}
+use Rattle.nap_make.proofs.{AllDigits, digits_value, take, ◌≡◌}
 use Rattle.nap_make.proofs.number.numeral.Given as goal
 
 abbrev pub invariant-loop-digit : goal.invariant-loop-digit

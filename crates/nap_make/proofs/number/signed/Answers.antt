@@ -1,5 +1,5 @@
-use Rattle.nap_make.proofs.Common.{None, arith}
-use Rattle.nap_make.proofs.NumberLemmas.{after_minus, low_pos, no_sign, with_minus, without_minus}
+use Rattle.nap_make.proofs.{None, arith}
+use Rattle.nap_make.proofs.ValueLemmas.{after_minus, low_pos, no_sign, with_minus, without_minus}
 use Rattle.nap_make.proofs.number.signed.Goals as goal
 
 pub returns-then-bytes-eq0 : goal.returns-then-bytes-eq0

@@ -1,5 +1,4 @@
-use Rattle.nap_make.proofs.CutLemmas.{no_byte, no_first, no_second}
-use Rattle.nap_make.proofs.AttributeLemmas.{word_pair}
+use Rattle.nap_make.proofs.ValueLemmas.{no_byte, no_first, no_second, word_pair}
 use Rattle.nap_make.proofs.number.two_words.Goals as goal
 
 pub returns-in_err-first : goal.returns-in_err-first

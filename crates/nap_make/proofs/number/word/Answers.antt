@@ -1,6 +1,5 @@
-use Rattle.nap_make.proofs.Common.{IsWord, decimal}
-use Rattle.nap_make.proofs.CutLemmas.{reads_tried}
+use Rattle.nap_make.proofs.{ValueLemmas.reads_tried}
 use Rattle.nap_make.proofs.number.word.Goals as goal
 
 pub returns : goal.returns
-returns c = reads_tried IsWord decimal c.args.bytes.now c.in_ok-number.number c.try_new.result c.in_ok-number.ensures c.try_new.ensures.found c.try_new.ensures.value
+returns c = reads_tried c.try_new.result c.in_ok-number.ensures c.try_new.ensures.found c.try_new.ensures.value

@@ -1,6 +1,5 @@
-use Rattle.nap_make.proofs.Common.{Consumes-nil, [], arith, false, reading, refl, sym, true, ◌∙◌, ◌≡◌}
+use Rattle.nap_make.proofs.{Consumes-nil, PageLemmas.concluded, PageLemmas.header_fails, [], arith, false, Common.reading, refl, sym, true, ◌∙◌, ◌≡◌}
 use Rattle.nap_canon.proofs.PublicLaws.{flushed_once}
-use Rattle.nap_make.proofs.PageLemmas.{concluded, header_fails}
 use Rattle.nap_make.proofs.page.make_page.Goals as goal
 
 -- the header was not written

@@ -1,5 +1,4 @@
-use Rattle.nap_make.proofs.Common.{Consumes-nil, DeniesInput, WritingTo, [], ap, reading, refl, subst, sym, ◌∙◌, ◌≡◌}
-use Rattle.nap_make.proofs.PageLemmas.{text_written, made_none, makes_page}
+use Rattle.nap_make.proofs.{Consumes-nil, DeniesInput, PageLemmas.made_none, PageLemmas.makes_page, PageLemmas.text_written, WritingTo, [], ap, Common.reading, refl, subst, sym, ◌∙◌, ◌≡◌}
 use Rattle.nap_make.proofs.page.page_of_input.Goals as goal
 
 pub returns-then-failed-clause-makes : goal.returns-then-failed-clause-makes

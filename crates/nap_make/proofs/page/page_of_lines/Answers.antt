@@ -1,5 +1,4 @@
-use Rattle.nap_make.proofs.Common.{DeniesLines, WritingTo, ap, refl, subst, sym, ◌∙◌, ◌≡◌}
-use Rattle.nap_make.proofs.PageLemmas.{text_written, puts_no_page, puts_page}
+use Rattle.nap_make.proofs.{DeniesLines, PageLemmas.puts_no_page, PageLemmas.puts_page, PageLemmas.text_written, WritingTo, ap, refl, subst, sym, ◌∙◌, ◌≡◌}
 use Rattle.nap_make.proofs.page.page_of_lines.Goals as goal
 
 pub returns-in-Ok : goal.returns-in-Ok

@@ -1,5 +1,4 @@
-use Rattle.nap_make.proofs.Common.{length}
-use Rattle.nap_make.proofs.LineLemmas.{HasPointsSo}
+use Rattle.nap_make.proofs.{LineLemmas.HasPointsSo, length}
 use Rattle.nap_make.proofs.reading.read_points.Given as goal
 
 abbrev pub invariant-loop-word : goal.invariant-loop-word

@@ -1,4 +1,4 @@
-use Rattle.nap_make.proofs.RowLemmas.{HasRead}
+use Rattle.nap_make.proofs.FieldLemmas.{HasRead}
 use Rattle.nap_make.proofs.reading.read_row.Given as goal
 
 abbrev pub invariant-loop-sort : goal.invariant-loop-sort

@@ -1,10 +1,8 @@
-use Rattle.nap_values.proofs.Common.{rules}
-use Rattle.nap_values.proofs.CollectLemmas.{below_base}
-use Rattle.nap_values.proofs.PartLemmas.{collects}
+use Rattle.nap_values.proofs.{ColourLemmas.collects, SpreadLemmas.below_base, rules}
 use Rattle.nap_values.proofs.colours.collected_digits.Goals as goal
 
 pub overflow_add-quarters : goal.overflow_add-quarters
-overflow_add-quarters c = let below = below_base 4 c.args.digits c.requires in search rules
+overflow_add-quarters c = let below = below_base 4 _ c.requires in search rules
 
 pub returns : goal.returns
 returns c = collects c.args.digits c.requires

@@ -1,5 +1,4 @@
-use Rattle.nap_values.proofs.Common.{arith}
-use Rattle.nap_values.proofs.PartLemmas.{spreads}
+use Rattle.nap_values.proofs.{ColourLemmas.spreads, arith}
 use Rattle.nap_values.proofs.colours.spread_digits.Goals as goal
 
 pub returns-clause-value : goal.returns-clause-value

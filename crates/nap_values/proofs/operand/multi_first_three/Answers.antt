@@ -1,5 +1,4 @@
-use Rattle.nap_values.proofs.Common.{ap, bit_and, multi_of, value_of, words_in, ◌∙◌}
-use Rattle.nap_values.proofs.OperandWordLemmas.{kept_holds, kept_spells}
+use Rattle.nap_values.proofs.{OperandLemmas.kept_holds, OperandLemmas.kept_spells, ap, bit_and, multi_of, value_of, words_in, ◌∙◌}
 use Rattle.nap_values.proofs.operand.multi_first_three.Goals as goal
 
 pub new-requires : goal.new-requires

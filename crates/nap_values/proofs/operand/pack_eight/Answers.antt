@@ -1,5 +1,4 @@
-use Rattle.nap_values.proofs.Common.{ap, bit_and, refl, rules, value_of, words_in, ◌∙◌}
-use Rattle.nap_values.proofs.OperandWordLemmas.{kept_holds, kept_all}
+use Rattle.nap_values.proofs.{OperandLemmas.kept_all, OperandLemmas.kept_holds, ap, bit_and, refl, rules, value_of, words_in, ◌∙◌}
 use Rattle.nap_values.proofs.operand.pack_eight.Goals as goal
 
 pub new-requires : goal.new-requires

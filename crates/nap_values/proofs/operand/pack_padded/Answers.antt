@@ -1,8 +1,7 @@
-use Rattle.nap_values.proofs.Common.{arith, ◌∙◌}
-use Rattle.nap_values.proofs.OperandWordLemmas.{eight_bytes}
+use Rattle.nap_values.proofs.{OperandLemmas.eight_bytes, arith, ◌∙◌}
 use Rattle.nap_values.proofs.operand.pack_padded.Goals as goal
 
 pub returns-in-len8 : goal.returns-in-len8
 returns-in-len8 c =
     let run = c.args.run.now in
-    c.pack_eight-in-len8.ensures ∙ eight_bytes run (omega (arith, c.in-len8.len_at_least, c.in-len8.len_below))
+    c.pack_eight-in-len8.ensures ∙ eight_bytes run (omega arith)

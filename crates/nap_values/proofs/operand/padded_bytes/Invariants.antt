@@ -1,4 +1,4 @@
-use Rattle.nap_values.proofs.Common.{length, operand_words, replicate, take, ◌++◌, ◌-◌, ◌≡◌}
+use Rattle.nap_values.proofs.{length, operand_words, replicate, take, ◌++◌, ◌-◌, ◌≡◌}
 use Rattle.nap_values.proofs.operand.padded_bytes.Given as goal
 
 abbrev pub invariant-loop-at : goal.invariant-loop-at

@@ -1,5 +1,4 @@
-use Rattle.nap_values.proofs.Common.{addr_bytes, ap, append-nil, append_assoc, arith, digits_of, sym, ◌+◌, ◌-◌, ◌∙◌, ◌≡◌}
-use Rattle.nap_values.proofs.LoopLemmas.{IsRestAt-more, digits_of-more}
+use Rattle.nap_values.proofs.{DigitLemmas.IsRestAt-more, DigitLemmas.digits_of-more, addr_bytes, ap, append-nil, append_assoc, arith, digits_of, sym, ◌+◌, ◌-◌, ◌∙◌, ◌≡◌}
 use Rattle.nap_values.proofs.operand.put_addr.Goals as goal
 
 pub loop-i-preserved : goal.loop-i-preserved
@@ -16,4 +15,4 @@ pub returns : goal.returns
 unfolding digits_of addr_bytes
 returns c =
     let left : 4 - c.loop-i.i ≡ 0 = omega arith in
-    sym (append-nil c.loop-i.bytes.items) ∙ rw left at c.loop-i.invariant.bytes
+    sym (append-nil _) ∙ rw left at c.loop-i.invariant.bytes

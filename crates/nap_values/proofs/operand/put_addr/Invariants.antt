@@ -1,5 +1,4 @@
-use Rattle.nap_values.proofs.Common.{array_vec_len, digits_of, operand_bytes, ◌++◌, ◌-◌, ◌≡◌}
-use Rattle.nap_values.proofs.LoopLemmas.{IsRestAt}
+use Rattle.nap_values.proofs.{DigitLemmas.IsRestAt, array_vec_len, digits_of, operand_bytes, ◌++◌, ◌-◌, ◌≡◌}
 use Rattle.nap_values.proofs.operand.put_addr.Given as goal
 
 abbrev pub invariant-loop-i : goal.invariant-loop-i

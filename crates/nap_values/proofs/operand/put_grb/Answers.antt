@@ -1,5 +1,4 @@
-use Rattle.nap_values.proofs.Common.{ap, grb_bytes, operand_bytes, ◌∙◌}
-use Rattle.nap_values.proofs.PackedColourLemmas.{words_of_colour}
+use Rattle.nap_values.proofs.{ColourLemmas.words_of_colour, ap, grb_bytes, operand_bytes, ◌∙◌}
 use Rattle.nap_values.proofs.operand.put_grb.Goals as goal
 
 pub returns : goal.returns

@@ -1,5 +1,4 @@
-use Rattle.nap_values.proofs.Common.{ap, move_bytes, operand_bytes, ◌∙◌}
-use Rattle.nap_values.proofs.ByteLemmas.{words_of_move}
+use Rattle.nap_values.proofs.{OperandLemmas.words_of_move, ap, move_bytes, operand_bytes, ◌∙◌}
 use Rattle.nap_values.proofs.operand.put_move.Goals as goal
 
 pub returns : goal.returns

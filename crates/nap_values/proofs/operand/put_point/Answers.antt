@@ -1,5 +1,4 @@
-use Rattle.nap_values.proofs.Common.{ap, operand_bytes, point_bytes, ◌∙◌}
-use Rattle.nap_values.proofs.ByteLemmas.{words_of_point}
+use Rattle.nap_values.proofs.{OperandLemmas.words_of_point, ap, operand_bytes, point_bytes, ◌∙◌}
 use Rattle.nap_values.proofs.operand.put_point.Goals as goal
 
 pub returns-clause-bytes : goal.returns-clause-bytes

@@ -1,10 +1,8 @@
-use Rattle.nap_values.proofs.Common.{ap, operand_bytes, rules, to_le_bytes, w64, words_in, ◌∙◌}
-use Rattle.nap_values.proofs.PackedLemmas.{packed_fits}
-use Rattle.nap_values.proofs.ByteLemmas.{bytes_of_words}
+use Rattle.nap_values.proofs.{OperandLemmas.bytes_of_words, WordLemmas.packed_fits, ap, operand_bytes, rules, to_le_bytes, w64, words_in, ◌∙◌}
 use Rattle.nap_values.proofs.operand.put_words.Goals as goal
 
 pub overflow_add-bytes : goal.overflow_add-bytes
-overflow_add-bytes c = let fits = packed_fits c.get-bytes.result c.get-bytes.ensures.words in search rules
+overflow_add-bytes c = let fits = packed_fits _ c.get-bytes.ensures.words in search rules
 
 pub returns : goal.returns
 returns c =

@@ -1,5 +1,4 @@
-use Rattle.nap_values.proofs.Common.{◌%◌}
-use Rattle.nap_values.proofs.LoopLemmas.{IsSumSoFar}
+use Rattle.nap_values.proofs.{DigitLemmas.IsSumSoFar, ◌%◌}
 use Rattle.nap_values.proofs.operand.single_bytes.Given as goal
 
 abbrev pub invariant-loop-byte : goal.invariant-loop-byte

@@ -1,5 +1,4 @@
-use Rattle.nap_values.proofs.Common.{rules}
-use Rattle.nap_values.proofs.CollectLemmas.{collects, collects-below}
+use Rattle.nap_values.proofs.{SpreadLemmas.collects, SpreadLemmas.collects-below, rules}
 use Rattle.nap_values.proofs.packed.collected_digits.Goals as goal
 
 pub overflow_cast-result : goal.overflow_cast-result

@@ -1,13 +1,11 @@
 -- `some` moves the pointer, with what is owned at it.
+use Rattle.nap_c.proofs.{ !, Goes-dropped, List, Option, SProp, Slot, Some, Stays, Val, WpFn, [], agg, alloc_all, and_then, block_ptr, by, checking.Checking.some.Statement.statement, emp, ent, enter, fact, fact_i, fjoin, fld, free_all, fsplit, ftrue, get, get_in, ghosts, keep, leaves, look_at, move, no_more, nothing, of_opd, owns, pass_all, plain, proved_at, qed, raw, refl, returns, sets, split, stay_dropped, stop, sub, suffices, tables, types_at, use0, vptr, walk_of, whole, yes, ‵, ◌$◌, ◌++◌, ◌∵◌, ◌∷◌, ◌≡◌, ◌⊛◌}
+use Rattle.nap_c.proofs.ValueLemmas.{Known, Loose, alone, both, checking_in, loose_good, loose_out, runs_alike, some_kept}
 use Rattle.std.specs.contracts.alloc.Global as heap
 use Rattle.std.proofs.alloc.Global.TheLaws as heap_laws
-use Rattle.nap_c.proofs.Common.{ !, Goes-dropped, List, Option, RattleType, SProp, Slot, Some, Stays, Val, WpFn, [], agg, alloc_all, and_then, block_ptr, by, emp, ent, enter, fact, fact_i, fjoin, fld, free_all, fsplit, ftrue, get, get_in, ghosts, id⊢, keep, leaves, look_at, move, no_more, nothing, of_opd, owns, pass_all, plain, proved_at, qed, raw, refl, returns, sets, split, stay_dropped, stop, sub, subst, suffices, sym, tables, types_at, use0, vptr, walk_of, whole, yes, ‵, ◌$◌, ◌++◌, ◌∵◌, ◌∷◌, ◌≡◌, ◌⊛◌}
 use Rattle.nap_c.specs.contracts.pieces.Check as check
-use Rattle.nap_c.proofs.LooseLemmas.{Loose, both, loose_good, loose_out}
-use Rattle.nap_c.proofs.KeptLemmas.{Known, alone, checking_in, some_kept}
 use Rattle.nap_c.specs.contracts.checking.Checking.some as f
-use Rattle.nap_c.specs.contracts.checking.Checking.some.Key.{name as #self}
-use Rattle.nap_c.proofs.checking.Checking.some.Statement.{statement}
+use f.Key.{name as #self}
 use Rattle.nap_c.proofs.checking.Checking.some.Code as code
 
 abbrev From : Slot 0
@@ -19,13 +17,13 @@ stayed = (stay_dropped From yes, tt)
 pub some_spec : {M : Type 1} → statement M
 some_spec 𝓤 𝓛 𝓜 𝓡 wired =
     let H = 𝓛.H in let 𝓣 = tables 𝓤 H 𝓜 𝓡 𝓡.env in let c = f.clauses 𝓛 𝓜.mem 𝓡.returns in let fn = code.function in
-    let R : RattleType = check.the_row in let Z : RattleType = heap.the_row in let LZ = heap_laws.the_row_laws in
+    let R = check.the_row in let Z = heap.the_row in let LZ = heap_laws.the_row_laws in
     proved_at 𝓛 f.ended stayed c 𝓜 𝓡 (Goes-dropped 𝓛 0 From yes (λ κs x w. refl), tt) #self fn (code.unfolded 𝓤 H 𝓜 𝓡 wired) (λ z are.
-    let v = z.0.3.0 in let Post : Val → SProp 𝓤 = (walk_of 𝓛 f.ended stayed c).post z in let Run : List Val → SProp 𝓤 = λ ws. WpFn 𝓤 H 𝓣.C 𝓣.Λ fn ws Post in
+    let v = z.0.3.0 in let Post = (walk_of 𝓛 f.ended stayed c).post z in let Run : List Val → SProp 𝓤 = λ ws. WpFn 𝓤 H 𝓣.C 𝓣.Λ fn ws Post in
     qed 𝓛 ((‵ ftrue ⊛ ‵ (owns (types_at f.ended.signature.params z.0.0) z.0.3 z.0.4)) ∷ raw ((c z.0.0 z.0.3).requires z.1) ∷ []) ∵ split ! $ move ! (1 ∷ []) $ fsplit ! $
     loose_out R Z LZ ghosts ! v z.0.4.0 (λ b o h e ws fits.
-    let w : Val = both (vptr b o) h in let made : Val = alone (vptr b o) in let then : Option Known = Some v.value in
-    suffices ! (Run (w ∷ [])) (subst (λ (us : List Val). ent 𝓤 (Run (w ∷ [])) (Run us)) (sym (λ i. ws i ++ [])) (id⊢ 𝓤 (Run (w ∷ [])))) $
+    let w = both (vptr b o) h in let made = alone (vptr b o) in let then : Option Known = Some v.value in
+    suffices ! (Run (w ∷ [])) (runs_alike 𝓤 Run (λ i. ws i ++ [])) $
     enter ! 𝓣.C 𝓣.Λ fn (w ∷ []) Post $ alloc_all ! (λ l. pass_all ! refl (loose_good R Z LZ ghosts b o h fits, tt) $
     sets ! (of_opd ! (get_in ! (fld ! refl (stop !)) (sub ! 0 refl (whole !)))) refl (tt, tt) $
     sets ! (of_opd ! (get ! refl)) refl (tt, tt) $

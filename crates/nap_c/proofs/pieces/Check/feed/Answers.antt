@@ -1,7 +1,6 @@
-use Rattle.nap_c.proofs.Common.{Answer, Fault, ap, inl, inr, refusal_of, sym, ◌++◌, ◌∙◌, ◌≢◌}
+use Rattle.nap_c.proofs.{Answer, Fault, ap, inl, inr, refusal_of, sym, ◌++◌, ◌∙◌, ◌≢◌}
 use Rattle.std.proofs.lemmas.Bool.{false≢true}
-use Rattle.nap_c.proofs.AnswerLemmas.{answers_uncounted}
-use Rattle.nap_c.proofs.CheckLemmas.{none_or_some, refused_so_far}
+use Rattle.nap_c.proofs.AnswerLemmas.{answers_uncounted, none_or_some, refused_so_far}
 use Rattle.nap_c.proofs.pieces.Check.feed.Goals as goal
 
 -- the page is refused so far

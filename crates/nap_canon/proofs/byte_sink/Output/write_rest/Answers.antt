@@ -1,4 +1,4 @@
-use Rattle.nap_canon.proofs.Common.{FailsAfter, List, SendsAll, arith, drop, false, length-drop, rest_of, sending, sends_more, subst, sym, take, take-add, take-append-drop, ℕ}
+use Rattle.nap_canon.proofs.{FailsAfter, List, SendsAll, arith, drop, false, length-drop, rest_of, sending, sends_more, subst, sym, take, take-add, take-append-drop, ℕ}
 use Rattle.nap_canon.proofs.byte_sink.Output.write_rest.Goals as goal
 
 -- the rest was taken after what came before

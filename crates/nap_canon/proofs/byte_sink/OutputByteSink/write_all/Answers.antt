@@ -1,5 +1,4 @@
-use Rattle.nap_canon.proofs.Common.{sending}
-use Rattle.nap_canon.proofs.sinks.CutLemmas.{cut_sends}
+use Rattle.nap_canon.proofs.{Sinks.cut_sends, sending}
 use Rattle.nap_canon.proofs.byte_sink.OutputByteSink.write_all.Goals as goal
 
 pub returns-in-Err : goal.returns-in-Err

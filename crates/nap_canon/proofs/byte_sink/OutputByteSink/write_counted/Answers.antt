@@ -1,5 +1,4 @@
-use Rattle.nap_canon.proofs.Common.{arith, eqb-false, sending, sends_none, slice_index, sym, ◌∙◌}
-use Rattle.nap_canon.proofs.sinks.CutLemmas.{none_taken}
+use Rattle.nap_canon.proofs.{Sinks.none_taken, arith, eqb-false, sending, sends_none, slice_index, sym, ◌∙◌}
 use Rattle.nap_canon.proofs.byte_sink.OutputByteSink.write_counted.Goals as goal
 
 pub returns-in_default : goal.returns-in_default

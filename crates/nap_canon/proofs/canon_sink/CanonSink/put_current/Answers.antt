@@ -1,5 +1,5 @@
-use Rattle.nap_canon.proofs.Common.{Canonical, EachIsCurrent, Err, Ok, Putting, PutsSome, arith, batch_entries, canon_sink_model, drop, false, length, length-drop, put_begins, refl, subst, sym, took_none, ◌+◌, ◌≡◌, ◌≤◌}
-use Rattle.nap_canon.proofs.sinks.PutLemmas.{broke_after, halts_within, next_put, part_put, current_after_part, sink_of_writer, works_after}
+use Rattle.nap_canon.proofs.{Canonical, EachIsCurrent, Err, Ok, PutsSome, Putting, arith, batch_entries, canon_sink_model, drop, false, length, length-drop, put_begins, refl, subst, sym, took_none, ◌+◌, ◌≡◌, ◌≤◌}
+use Rattle.nap_canon.proofs.Sinks.{broke_after, current_after_part, halts_within, next_put, part_put, sink_of_writer, works_after}
 use Rattle.nap_canon.proofs.canon_sink.CanonSink.put_current.Goals as goal
 
 pub loop-taken-init : goal.loop-taken-init
@@ -26,13 +26,13 @@ loop-taken-preserved g c =
     let taken = c.loop-taken.taken in
     let more = c.in-Ok.more in
     let inv = c.loop-taken.invariant in
-    let some : PutsSome o (drop taken list) t u (Ok more) = next_put o w c.put_more.new.self t refl inv.works (drop taken list) (Ok more) c.in-Ok.ensures in
+    let some : PutsSome o (drop taken list) t u (Ok more) = next_put o w t refl inv.works (Ok more) c.in-Ok.ensures in
     record {
       from = omega (arith, inv.from);
       few = omega (arith, some.1, inv.few, length-drop taken list);
       putting = part_put o s t u (drop c.args.first list) list taken inv.putting more (taken + more) refl some.2;
-      current = current_after_part o t u list taken more (taken + more) refl inv.current some;
-      works = works_after o t u (drop taken list) more some;
+      current = current_after_part o list taken more refl inv.current some;
+      works = works_after o (drop taken list) more some;
     }
 
 pub overflow_add-result : goal.overflow_add-result
@@ -43,7 +43,7 @@ overflow_add-result g c =
     let taken = c.loop-taken.taken in
     let more = c.in-Err.more in
     let few : more ≤ length (drop taken list) =
-    halts_within g.O.Outlet t (sink_of_writer c.put_more.new.self) (drop taken list) more (next_put g.O.Outlet w c.put_more.new.self t refl c.loop-taken.invariant.works (drop taken list) (Err more) c.in-Err.ensures) in
+    halts_within g.O.Outlet t (sink_of_writer c.put_more.new.self) (drop taken list) more (next_put g.O.Outlet w t refl c.loop-taken.invariant.works (Err more) c.in-Err.ensures) in
     omega (arith, few, c.loop-taken.invariant.few, length-drop taken list, c.len-count.ensures, c.len-count.type_inv)
 
 pub returns-in-Err : goal.returns-in-Err
@@ -55,5 +55,5 @@ returns-in-Err g c =
     let taken = c.loop-taken.taken in
     let more = c.in-Err.more in
     let inv = c.loop-taken.invariant in
-    broke_after o c.args.self.now t (sink_of_writer c.put_more.new.self) list c.args.first taken more inv.from inv.few inv.putting
-    (next_put o w c.put_more.new.self t refl inv.works (drop taken list) (Err more) c.in-Err.ensures)
+    broke_after o list c.args.first taken more inv.from inv.few inv.putting
+    (next_put o w t refl inv.works (Err more) c.in-Err.ensures)

@@ -1,5 +1,4 @@
-use Rattle.nap_canon.proofs.Common.{EachIsCurrent, Putting, batch_entries, canon_sink_model, drop, false, length, ◌-◌, ◌≡◌, ◌≤◌}
-use Rattle.nap_canon.proofs.sinks.PutLemmas.{sink_of_writer}
+use Rattle.nap_canon.proofs.{EachIsCurrent, Putting, Sinks.sink_of_writer, batch_entries, canon_sink_model, drop, false, length, ◌-◌, ◌≡◌, ◌≤◌}
 use Rattle.nap_canon.proofs.canon_sink.CanonSink.put_current.Given as goal
 
 -- the entries so far

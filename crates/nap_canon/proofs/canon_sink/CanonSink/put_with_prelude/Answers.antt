@@ -1,5 +1,4 @@
-use Rattle.nap_canon.proofs.Common.{arith, batch_entries, canon_sink_model, put_begins, put_ends, refl, took_none}
-use Rattle.nap_canon.proofs.sinks.PutLemmas.{current_after, rest_after}
+use Rattle.nap_canon.proofs.{Sinks.current_after, Sinks.rest_after, arith, batch_entries, canon_sink_model, put_begins, put_ends, refl, took_none}
 use Rattle.nap_canon.proofs.canon_sink.CanonSink.put_with_prelude.Goals as goal
 
 pub returns-then-is_empty : goal.returns-then-is_empty

@@ -1,5 +1,4 @@
-use Rattle.nap_canon.proofs.Common.{Canonical, Drawing, FirstIsCurrent, ap, refl, subst, ◌∙◌}
-use Rattle.nap_canon.proofs.sinks.PutLemmas.{each_current}
+use Rattle.nap_canon.proofs.{Canonical, Drawing, FirstIsCurrent, Sinks.each_current, ap, refl, subst, ◌∙◌}
 use Rattle.nap_canon.proofs.canon_sink.CanonSinkSink.put_batch.Goals as goal
 
 pub put_current-requires-clause-current : goal.put_current-requires-clause-current

@@ -1,8 +1,6 @@
-use Rattle.nap_canon.proofs.Common.{Canonical, Err, PutSome, TakesAll, Write, [], canon_sink_model, entry_of_shape, false, subst, sym, ◌∙◌, ◌∷◌, ◌≡◌}
-use Rattle.nap_canon.proofs.sinks.PutLemmas.{none_put, one_breaks, sink_of_writer, takes_all}
-use Rattle.nap_canon.proofs.sinks.SinkingLemmas.{took_answered}
+use Rattle.nap_canon.proofs.{Canonical, Err, PutSome, Sinks.none_put, Sinks.one_breaks, Sinks.sink_of_writer, Sinks.takes_all, Sinks.took_answered, TakesAll, Write, [], canon_sink_model, entry_of_shape, false, subst, sym, ◌∙◌, ◌∷◌, ◌≡◌}
+use Rattle.nap_canon.proofs.canon_sink.CanonSinkSink.put_shape.Goals.{then-failed-via-else-failed+then-is_err, then-failed-via-then-failed}
 use Rattle.nap_canon.proofs.canon_sink.CanonSinkSink.put_shape.Goals as goal
-use Rattle.nap_canon.proofs.canon_sink.CanonSinkSink.put_shape.Goals.{then-failed-via-then-failed, then-failed-via-else-failed+then-is_err}
 
 pub returns-then-failed : goal.returns-then-failed
 returns-then-failed g c =
@@ -30,4 +28,4 @@ returns g c =
     let works : o.failed s.outlet ≡ false = subst (λ (s : Canonical _). o.failed s.outlet ≡ false) (sym c.self.view_is) (sym c.failed.ensures ∙ c.if-failed.false) in
     let put = c.put_shape.ensures in
     subst (λ (s : Canonical _). TakesAll (canon_sink_model o) (x ∷ []) s t) c.self.view_is
-    (takes_all o s t works (x ∷ []) (took_answered o s t x c.put_shape.result (sym c.is_err.ensures.value ∙ c.if-is_err.false) put.sent put.form put.text_end put.state))
+    (takes_all o s t works (x ∷ []) (took_answered o x c.put_shape.result (sym c.is_err.ensures.value ∙ c.if-is_err.false) put.sent put.form put.text_end put.state))

@@ -1,4 +1,4 @@
-use Rattle.nap_canon.proofs.Common.{AppendsCommands, Batch, arith, batch_attributes, prelude, subst, sym}
+use Rattle.nap_canon.proofs.{AppendsCommands, Batch, arith, batch_attributes, prelude, subst, sym}
 use Rattle.nap_canon.proofs.pending.Pending.append_batch_prelude.Goals as goal
 
 pub returns-in-Points-clause-appends : goal.returns-in-Points-clause-appends

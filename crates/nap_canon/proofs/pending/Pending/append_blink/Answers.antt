@@ -1,5 +1,4 @@
-use Rattle.nap_canon.proofs.Common.{AppendsPiece, List, [], addr_bytes, ap, arith, length, length-take-le, opcode, refl, subst, take, take_all, word_byte, ℕ, ◌++◌, ◌∙◌, ◌∷◌, ◌≡◌}
-use Rattle.nap_canon.proofs.texts.PointsLemmas.{addr_size}
+use Rattle.nap_canon.proofs.{AppendsPiece, List, Texts.addr_size, [], addr_bytes, ap, arith, length, length-take-le, opcode, refl, subst, take, take_all, word_byte, ℕ, ◌++◌, ◌∙◌, ◌∷◌, ◌≡◌}
 use Rattle.nap_canon.proofs.pending.Pending.append_blink.Goals as goal
 
 pub slice_bounds-append_opcode_and_operands-end : goal.slice_bounds-append_opcode_and_operands-end

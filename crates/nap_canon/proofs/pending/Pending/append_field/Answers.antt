@@ -1,4 +1,4 @@
-use Rattle.nap_canon.proofs.Common.{append-nil, arith, displacement_bytes}
+use Rattle.nap_canon.proofs.{append-nil, arith, displacement_bytes}
 use Rattle.nap_canon.proofs.pending.Pending.append_field.Goals as goal
 
 pub returns-in-Part : goal.returns-in-Part

@@ -1,5 +1,4 @@
-use Rattle.nap_canon.proofs.Common.{arith, joined_bytes, length, length-drop, length-take-le, sized_lines, sized_text}
-use Rattle.nap_canon.proofs.sinks.PrefixLemmas.{rest_ends, rest_some}
+use Rattle.nap_canon.proofs.{JoinedEntries.rest_ends, JoinedEntries.rest_some, arith, joined_bytes, length, length-drop, length-take-le, sized_lines, sized_text}
 use Rattle.nap_canon.proofs.pending.Pending.append_joined.Goals as goal
 
 pub part-requires-in-Lines : goal.part-requires-in-Lines

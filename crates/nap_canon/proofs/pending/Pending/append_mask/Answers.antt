@@ -1,5 +1,4 @@
-use Rattle.nap_canon.proofs.Common.{AppendsCommands, AppendsPiece, Command, List, [], command_piece, mask_commands, move_bytes, opcode, rules, subst, word_byte, ℕ, ◌∷◌, ◌≡◌}
-use Rattle.nap_canon.proofs.texts.WritingLemmas.{one_piece}
+use Rattle.nap_canon.proofs.{AppendsCommands, AppendsPiece, Command, List, Texts.one_piece, [], command_piece, mask_commands, move_bytes, opcode, rules, subst, word_byte, ℕ, ◌∷◌, ◌≡◌}
 use Rattle.nap_canon.proofs.pending.Pending.append_mask.Goals as goal
 
 pub returns-in-Some-clause-appends : goal.returns-in-Some-clause-appends
@@ -10,7 +9,7 @@ returns-in-Some-clause-appends c =
     let is : command ∷ [] ≡ mask_commands c.args.word c.args.old c.args.mask = search rules in
     let operands : c.word_byte-byte.result ∷ c.deref.result.now ≡ word_byte c.args.word ∷ move_bytes c.in-Some.mask = cc (c.word_byte-byte.ensures, c.deref.ensures.0, c.put_move.ensures) in
     subst (λ (cs : List Command). AppendsCommands cs w t) is
-    (one_piece (command_piece command) w t (subst (λ (bs : List ℕ). AppendsPiece (opcode 0x23 bs) w t) operands c.append_opcode_and_operands.ensures.appends))
+    (one_piece (command_piece command) (subst (λ (bs : List ℕ). AppendsPiece (opcode 0x23 bs) w t) operands c.append_opcode_and_operands.ensures.appends))
 
 pub returns-in_default-clause-appends : goal.returns-in_default-clause-appends
 returns-in_default-clause-appends c =
@@ -19,4 +18,4 @@ returns-in_default-clause-appends c =
     let command = Command.texture c.args.word in
     let is : command ∷ [] ≡ mask_commands c.args.word c.args.old c.args.mask = search rules in
     subst (λ (cs : List Command). AppendsCommands cs w t) is
-    (one_piece (command_piece command) w t (subst (λ (byte : ℕ). AppendsPiece (opcode 0x23 (byte ∷ [])) w t) c.word_byte-byte.ensures c.append_opcode_and_operands-in_default.ensures.appends))
+    (one_piece (command_piece command) (subst (λ (byte : ℕ). AppendsPiece (opcode 0x23 (byte ∷ [])) w t) c.word_byte-byte.ensures c.append_opcode_and_operands-in_default.ensures.appends))

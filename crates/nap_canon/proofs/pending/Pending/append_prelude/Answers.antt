@@ -1,6 +1,4 @@
-use Rattle.nap_canon.proofs.texts.WritingLemmas.{commands_as}
-use Rattle.nap_canon.proofs.Common.{arith}
-use Rattle.nap_canon.proofs.prelude.KindLemmas.{prelude_of_colour, prelude_of_pen}
+use Rattle.nap_canon.proofs.{Preludes.prelude_of_colour, Preludes.prelude_of_pen, Texts.commands_as, arith}
 use Rattle.nap_canon.proofs.pending.Pending.append_prelude.Goals as goal
 
 pub returns-in-Field-clause-appends : goal.returns-in-Field-clause-appends

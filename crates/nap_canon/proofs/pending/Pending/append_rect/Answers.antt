@@ -1,4 +1,4 @@
-use Rattle.nap_canon.proofs.Common.{append-nil, arith, displacement_bytes}
+use Rattle.nap_canon.proofs.{append-nil, arith, displacement_bytes}
 use Rattle.nap_canon.proofs.pending.Pending.append_rect.Goals as goal
 
 pub returns : goal.returns

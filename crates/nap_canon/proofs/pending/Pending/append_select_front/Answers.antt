@@ -1,5 +1,4 @@
-use Rattle.nap_canon.proofs.Common.{AppendsPiece, List, addr_bytes, ap, arith, length, length-take-le, opcode, subst, take, take_all, ℕ, ◌∙◌, ◌≡◌}
-use Rattle.nap_canon.proofs.texts.PointsLemmas.{addr_size}
+use Rattle.nap_canon.proofs.{AppendsPiece, List, Texts.addr_size, addr_bytes, ap, arith, length, length-take-le, opcode, subst, take, take_all, ℕ, ◌∙◌, ◌≡◌}
 use Rattle.nap_canon.proofs.pending.Pending.append_select_front.Goals as goal
 
 pub slice_bounds-append_opcode_and_operands-end-2 : goal.slice_bounds-append_opcode_and_operands-end-2

@@ -1,5 +1,4 @@
-use Rattle.nap_canon.proofs.Common.{arith, length, length-take-le}
-use Rattle.nap_canon.proofs.texts.PointsLemmas.{grb_size}
+use Rattle.nap_canon.proofs.{Texts.grb_size, arith, length, length-take-le}
 use Rattle.nap_canon.proofs.pending.Pending.append_set_color.Goals as goal
 
 pub slice_bounds-append_opcode_and_operands-end-2 : goal.slice_bounds-append_opcode_and_operands-end-2

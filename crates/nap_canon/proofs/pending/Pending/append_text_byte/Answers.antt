@@ -1,4 +1,4 @@
-use Rattle.nap_canon.proofs.Common.{AppendsPiece, CharSet, FormatEffector, None, Option, Piece, Primary, Some, TextStep, arith, backward, down, format_effector, format_effector_known, forward, home, primary, refl, return, rules, subst, sym, text_byte_piece, text_byte_piece_as, up, ℕ, ◌<◌, ◌≡◌, ◌≤◌}
+use Rattle.nap_canon.proofs.{AppendsPiece, CharSet, FormatEffector, None, Option, Piece, Primary, Some, TextStep, arith, backward, down, format_effector, format_effector_known, forward, home, primary, refl, return, rules, subst, sym, text_byte_piece, text_byte_piece_as, up, ℕ, ◌<◌, ◌≡◌, ◌≤◌}
 use Rattle.nap_canon.proofs.pending.Pending.append_text_byte.Goals as goal
 
 -- a format effector of one byte is below 20

@@ -1,4 +1,4 @@
-use Rattle.nap_canon.proofs.Common.{arith, sized_lines, sized_text}
+use Rattle.nap_canon.proofs.{arith, sized_lines, sized_text}
 use Rattle.nap_canon.proofs.writer.Writer.joining_count.Goals as goal
 
 pub line_start-requires : goal.line_start-requires

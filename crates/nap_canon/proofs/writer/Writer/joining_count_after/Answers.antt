@@ -1,5 +1,4 @@
-use Rattle.nap_canon.proofs.Common.{arith, length, sized_lines, sized_text}
-use Rattle.nap_canon.proofs.sinks.PrefixLemmas.{line_left}
+use Rattle.nap_canon.proofs.{JoinedEntries.line_left, arith, length, sized_lines, sized_text}
 use Rattle.nap_canon.proofs.writer.Writer.joining_count_after.Goals as goal
 
 pub joining_code_count-requires : goal.joining_code_count-requires

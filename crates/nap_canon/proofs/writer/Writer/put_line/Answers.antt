@@ -1,14 +1,13 @@
-use Rattle.nap_canon.proofs.Common.{AppendsPieces, Drawing, Entry, [], err_from_is_err_and, line_piece, subst, sym, ◌∙◌, ◌∷◌}
-use Rattle.nap_canon.proofs.texts.WritingLemmas.{entry_fails, entry_written, one_piece}
+use Rattle.nap_canon.proofs.{AppendsPieces, Drawing, Entry, Texts.entry_fails, Texts.entry_written, Texts.one_piece, [], err_from_is_err_and, line_piece, subst, sym, ◌∙◌, ◌∷◌}
 use Rattle.nap_canon.proofs.writer.Writer.put_line.Goals as goal
 
 pub returns-in_err-write_all : goal.returns-in_err-write_all
 returns-in_err-write_all g c =
     let failure = err_from_is_err_and c.from_residual.result c.from_residual.ensures.1 in
-    rw failure.1 (entry_fails g.T.ByteSink.sent c.args.self.now (Entry.Line c.args.from c.args.to c.args.ink.now) c.clear.new.self c.clear.ensures c.drawing.result.now c.drawing.ensures c.append_ink_prelude-is_current.new.self _ c.append_ink_prelude-is_current.ensures.appends
-    (subst (λ (d : Drawing). AppendsPieces (line_piece c.args.self.now.form d.pen c.args.from c.args.to ∷ []) c.append_ink_prelude-is_current.new.self c.append_line.new.self) (c.drawing-2.ensures ∙ sym c.drawing.ensures) (one_piece _ _ _ c.append_line.ensures)) _ c.as_slice.ensures c.write_all.new.self c.in_err-write_all.ensures failure.0)
+    rw failure.1 (entry_fails g.T.ByteSink.sent c.args.self.now (Entry.Line c.args.from c.args.to c.args.ink.now) c.clear.ensures c.drawing.ensures c.append_ink_prelude-is_current.ensures.appends
+    (subst (λ (d : Drawing). AppendsPieces (line_piece c.args.self.now.form d.pen c.args.from c.args.to ∷ []) c.append_ink_prelude-is_current.new.self c.append_line.new.self) (c.drawing-2.ensures ∙ sym c.drawing.ensures) (one_piece _ c.append_line.ensures)) c.as_slice.ensures c.in_err-write_all.ensures failure.0)
 
 pub returns : goal.returns
 returns g c =
-    entry_written g.T.ByteSink.sent c.args.self.now (Entry.Line c.args.from c.args.to c.args.ink.now) c.clear.new.self c.clear.ensures c.drawing.result.now c.drawing.ensures c.append_ink_prelude-is_current.new.self _ c.append_ink_prelude-is_current.ensures.appends
-    (subst (λ (d : Drawing). AppendsPieces (line_piece c.args.self.now.form d.pen c.args.from c.args.to ∷ []) c.append_ink_prelude-is_current.new.self c.append_line.new.self) (c.drawing-2.ensures ∙ sym c.drawing.ensures) (one_piece _ _ _ c.append_line.ensures)) _ c.as_slice.ensures c.write_all.new.self c.in_ok-write_all.ensures _ c.step_to.ensures
+    entry_written g.T.ByteSink.sent c.args.self.now (Entry.Line c.args.from c.args.to c.args.ink.now) c.clear.ensures c.drawing.ensures c.append_ink_prelude-is_current.ensures.appends
+    (subst (λ (d : Drawing). AppendsPieces (line_piece c.args.self.now.form d.pen c.args.from c.args.to ∷ []) c.append_ink_prelude-is_current.new.self c.append_line.new.self) (c.drawing-2.ensures ∙ sym c.drawing.ensures) (one_piece _ c.append_line.ensures)) c.as_slice.ensures c.in_ok-write_all.ensures _ c.step_to.ensures

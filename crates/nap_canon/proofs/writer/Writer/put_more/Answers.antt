@@ -1,6 +1,4 @@
-use Rattle.nap_canon.proofs.Common.{arith, opening}
-use Rattle.nap_canon.proofs.sinks.PrefixLemmas.{joined_cut, joined_whole}
-use Rattle.nap_canon.proofs.sinks.JoinLemmas.{whole_few}
+use Rattle.nap_canon.proofs.{JoinedEntries.joined_cut, JoinedEntries.joined_whole, JoinedEntries.whole_few, arith, opening}
 use Rattle.nap_canon.proofs.writer.Writer.put_more.Goals as goal
 
 pub step_from-requires-in-Err-clause-few : goal.step_from-requires-in-Err-clause-few
@@ -11,10 +9,10 @@ step_from-requires-in-Err-clause-few g c =
 
 pub returns-in-Ok : goal.returns-in-Ok
 returns-in-Ok g c =
-    joined_whole g.T.ByteSink.sent c.args.self.now c.write_joined.new.self c.args.batch.now c.args.first c.joining_count-count.result (omega arith) c.joining_count-count.ensures.few c.requires.current (c.joining_count-count.ensures.joins (omega arith))
-    c.in-Ok.ensures c.step_from.new.self c.step_from.ensures
+    joined_whole g.T.ByteSink.sent c.args.self.now c.args.batch.now c.args.first c.joining_count-count.result (omega arith) c.joining_count-count.ensures.few c.requires.current (c.joining_count-count.ensures.joins (omega arith))
+    c.in-Ok.ensures c.step_from.ensures
 
 pub returns-in-Err : goal.returns-in-Err
 returns-in-Err g c =
-    joined_cut g.T.ByteSink.sent c.args.self.now c.write_joined.new.self c.args.batch.now c.args.first c.joining_count-count.result (omega arith) c.joining_count-count.ensures.few c.requires.current (c.joining_count-count.ensures.joins (omega arith))
-    c.in-Err.whole c.in-Err.ensures c.step_from-in-Err.new.self c.step_from-in-Err.ensures
+    joined_cut g.T.ByteSink.sent c.args.self.now c.args.batch.now c.args.first c.joining_count-count.result (omega arith) c.joining_count-count.ensures.few c.requires.current (c.joining_count-count.ensures.joins (omega arith))
+    c.in-Err.ensures c.step_from-in-Err.ensures

@@ -1,6 +1,4 @@
-use Rattle.nap_canon.proofs.Common.{Drawing, Pending, SpellsNext, State, ap, batch_entries, drop, subst, take, walk, ◌∙◌}
-use Rattle.nap_canon.proofs.sinks.JoinLemmas.{current_appended}
-use Rattle.nap_canon.proofs.sinks.PrefixLemmas.{then_current}
+use Rattle.nap_canon.proofs.{Drawing, JoinedEntries.current_appended, JoinedEntries.then_current, Pending, SpellsNext, State, ap, batch_entries, drop, subst, take, walk, ◌∙◌}
 use Rattle.nap_canon.proofs.writer.Writer.put_next.Goals as goal
 
 pub returns : goal.returns

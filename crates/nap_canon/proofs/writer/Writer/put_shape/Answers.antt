@@ -1,5 +1,4 @@
-use Rattle.nap_canon.proofs.Common.{Bool, Coordinates, Drawing, List, ShapeKind, attributes, entry_of_shape, err_from_is_err_and, ink_attributes, ink_of, refl, shape_on, ◌≡◌}
-use Rattle.nap_canon.proofs.texts.WritingLemmas.{prelude_fails, prelude_written}
+use Rattle.nap_canon.proofs.{Bool, Coordinates, Drawing, List, ShapeKind, Texts.prelude_fails, Texts.prelude_written, attributes, entry_of_shape, err_from_is_err_and, ink_attributes, ink_of, refl, shape_on, ◌≡◌}
 use Rattle.nap_canon.proofs.writer.Writer.put_shape.Goals as goal
 
 -- a shape holds the attributes for lines and areas
@@ -12,10 +11,10 @@ returns-in_err-write_shape_spelling g c =
     let s = c.args.shape.now in
     let holds = of_ink s.kind s.filled s.drawing.now _ in
     let failure = err_from_is_err_and c.from_residual.result c.from_residual.ensures.1 in
-    rw failure.1 (prelude_fails g.T.ByteSink.sent c.args.self.now (entry_of_shape s) (ink_attributes (ink_of s.drawing.now)) holds c.clear.new.self c.clear.ensures c.drawing.result.now c.drawing.ensures c.append_drawing_prelude-is_current.new.self c.append_drawing_prelude-is_current.ensures.appends c.write_shape_spelling.new.self failure.0 c.in_err-write_shape_spelling.ensures)
+    rw failure.1 (prelude_fails g.T.ByteSink.sent c.args.self.now (entry_of_shape s) (ink_attributes (ink_of s.drawing.now)) holds c.clear.ensures c.drawing.ensures c.append_drawing_prelude-is_current.ensures.appends failure.0 c.in_err-write_shape_spelling.ensures)
 
 pub returns : goal.returns
 returns g c =
     let s = c.args.shape.now in
     let holds = of_ink s.kind s.filled s.drawing.now _ in
-    prelude_written g.T.ByteSink.sent c.args.self.now (entry_of_shape s) (ink_attributes (ink_of s.drawing.now)) holds c.clear.new.self c.clear.ensures c.drawing.result.now c.drawing.ensures c.append_drawing_prelude-is_current.new.self c.append_drawing_prelude-is_current.ensures.appends c.write_shape_spelling.new.self c.in_ok-write_shape_spelling.ensures _ c.step_shape.ensures
+    prelude_written g.T.ByteSink.sent c.args.self.now (entry_of_shape s) (ink_attributes (ink_of s.drawing.now)) holds c.clear.ensures c.drawing.ensures c.append_drawing_prelude-is_current.ensures.appends c.in_ok-write_shape_spelling.ensures _ c.step_shape.ensures

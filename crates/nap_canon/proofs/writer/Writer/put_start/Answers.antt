@@ -1,4 +1,4 @@
-use Rattle.nap_canon.proofs.Common.{State, ap, batch_entries, batch_is_current, sym, take, walk, ◌∙◌}
+use Rattle.nap_canon.proofs.{State, ap, batch_entries, batch_is_current, sym, take, walk, ◌∙◌}
 use Rattle.nap_canon.proofs.writer.Writer.put_start.Goals as goal
 
 pub returns : goal.returns

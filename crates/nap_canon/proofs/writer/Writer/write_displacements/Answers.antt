@@ -1,5 +1,4 @@
-use Rattle.nap_canon.proofs.Common.{List, ap, append-nil, arith, chunks_rest, displacement_bytes, err_from_is_err_and, false, last_point, nil_from_length, refl, take_all, ℕ, ◌++◌, ◌∙◌, ◌≡◌}
-use Rattle.nap_canon.proofs.texts.WriterLemmas.{displacements_part, sent_second}
+use Rattle.nap_canon.proofs.{List, Texts.displacements_part, Texts.sent_second, ap, append-nil, arith, chunks_rest, displacement_bytes, err_from_is_err_and, false, last_point, nil_from_length, refl, take_all, ℕ, ◌++◌, ◌∙◌, ◌≡◌}
 use Rattle.nap_canon.proofs.writer.Writer.write_displacements.Goals as goal
 
 pub loop-chunk-init : goal.loop-chunk-init
@@ -37,7 +36,7 @@ returns-in_err-write_all g c =
     let part = c.in-Some.chunk.now in
     let failure = err_from_is_err_and c.from_residual.result c.from_residual.ensures.1 in
     rw failure.1 (record {
-      sent = sent_second g.T.ByteSink.sent g.met.T.ByteSink.sent_more g.met.T.ByteSink.sent_cut c.args.self.now.target c.loop-chunk.self.target c.write_all.new.self so_far.0 piece _ whole
+      sent = sent_second g.T.ByteSink.sent g.met.T.ByteSink.sent_more g.met.T.ByteSink.sent_cut _
           (displacements_part so_far.0 piece whole from (last_point from part) _ part (chunks_rest c.next.new.self) c.in-Some.ensures.steps.1.0 (c.as_slice.ensures ∙ c.append_displacements.ensures.bytes ∙ ap (λ (bs : List ℕ). bs ++ displacement_bytes c.loop-chunk.from c.in-Some.chunk.now) c.clear.ensures) refl so_far.2)
           so_far.1 c.in_err-write_all.ensures;
       text_end = c.loop-chunk.invariant.text_end;

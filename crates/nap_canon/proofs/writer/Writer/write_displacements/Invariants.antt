@@ -1,4 +1,4 @@
-use Rattle.nap_canon.proofs.Common.{List, chunks_rest, chunks_size, displacement_bytes, false, ℕ, ◌++◌, ◌≡◌}
+use Rattle.nap_canon.proofs.{List, chunks_rest, chunks_size, displacement_bytes, false, ℕ, ◌++◌, ◌≡◌}
 use Rattle.nap_canon.proofs.writer.Writer.write_displacements.Given as goal
 
 -- the displacements sent so far, and those left, are all of them

@@ -1,4 +1,4 @@
-use Rattle.nap_canon.proofs.Common.{G0, InRun, List, NoRun, OnOk, TextEnd, TextJoins, ap, arith, drop, inl, inr, length, length-drop, length-take-le, rules, run_after, sized_lines, sized_text, subst, ℕ, ◌*◌, ◌∙◌, ◌≡◌, ◌≤◌, ◌⊎◌}
+use Rattle.nap_canon.proofs.{G0, InRun, List, NoRun, OnOk, TextEnd, TextJoins, ap, arith, drop, inl, inr, length, length-drop, length-take-le, rules, run_after, sized_lines, sized_text, subst, ℕ, ◌*◌, ◌∙◌, ◌≡◌, ◌≤◌, ◌⊎◌}
 use Rattle.nap_canon.proofs.writer.Writer.write_joined.Goals as goal
 
 pub part-requires-in-Lines : goal.part-requires-in-Lines

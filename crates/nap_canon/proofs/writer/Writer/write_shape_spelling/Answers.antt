@@ -1,5 +1,4 @@
-use Rattle.nap_canon.proofs.Common.{List, Piece, WritesPendingAnd, WritesPieces, attributes, circle_closed, entry_of_shape, opcode, shape, shape_bytes, subst, sym, with_attributes, ◌∷◌}
-use Rattle.nap_canon.proofs.texts.WritingLemmas.{one_written, arc_spelled, poly_spelled}
+use Rattle.nap_canon.proofs.{List, Piece, Texts.arc_spelled, Texts.one_written, Texts.poly_spelled, WritesPendingAnd, WritesPieces, attributes, circle_closed, entry_of_shape, opcode, shape, shape_bytes, subst, sym, with_attributes, ◌∷◌}
 use Rattle.nap_canon.proofs.writer.Writer.write_shape_spelling.Goals as goal
 
 pub returns-in-Arc : goal.returns-in-Arc
@@ -8,7 +7,7 @@ returns-in-Arc g c =
     let t = c.write_arc.new.self in
     let s = c.args.shape.now in
     subst (λ (ps : List Piece). WritesPieces g.T.ByteSink.sent ps w t c.write_arc.result) (sym (arc_spelled w.form (with_attributes w.state.drawing (attributes (entry_of_shape s))) s c.in-Arc.is))
-    (one_written g.T.ByteSink.sent (shape 0x2E s.filled (circle_closed (s.from ∷ s.others.now))) w t c.write_arc.result c.write_arc.ensures)
+    (one_written (shape 0x2E s.filled (circle_closed (s.from ∷ s.others.now))) c.write_arc.ensures)
 
 pub returns-in-Poly : goal.returns-in-Poly
 returns-in-Poly g c =
@@ -16,5 +15,5 @@ returns-in-Poly g c =
     let t = c.write_path.new.self in
     let s = c.args.shape.now in
     subst (λ (ps : List Piece). WritesPieces g.T.ByteSink.sent ps w t c.write_path.result) (sym (poly_spelled w.form (with_attributes w.state.drawing (attributes (entry_of_shape s))) s c.in-Poly.is))
-    (one_written g.T.ByteSink.sent (shape 0x36 s.filled (s.from ∷ s.others.now)) w t c.write_path.result
+    (one_written (shape 0x36 s.filled (s.from ∷ s.others.now))
     (subst (λ code. WritesPendingAnd g.T.ByteSink.sent (opcode code (shape_bytes (s.from ∷ s.others.now))) w t c.write_path.result) c.shape_opcode.ensures c.write_path.ensures))

@@ -1,5 +1,5 @@
-use Rattle.nap_canon.proofs.Common.{List, arith, false, length, length-append, subst, ℕ}
-use Rattle.nap_canon.proofs.sinks.PrefixLemmas.{rest_size, sends_cut, sends_none, sends_whole}
+use Rattle.nap_canon.proofs.{List, arith, false, length, length-append, subst, ℕ}
+use Rattle.nap_canon.proofs.JoinedEntries.{rest_size, sends_cut, sends_none, sends_whole}
 use Rattle.nap_canon.proofs.writer.Writer.write_with_more.Goals as goal
 
 pub overflow_sub-begun : goal.overflow_sub-begun

@@ -1,5 +1,4 @@
-use Rattle.nap_canon.proofs.Common.{AllFit, EachIsCurrent, State, ap, arith, batch_entries, drop, subst, suc, sym, take, walk, ℕ, ◌∙◌, ◌≡◌}
-use Rattle.nap_canon.proofs.sinks.PutLemmas.{current_after_first, walk_start}
+use Rattle.nap_canon.proofs.{AllFit, EachIsCurrent, Sinks.current_after_first, Sinks.walk_start, State, ap, arith, batch_entries, drop, subst, suc, sym, take, walk, ℕ, ◌∙◌, ◌≡◌}
 use Rattle.nap_canon.proofs.writer.starting.step_batch.Goals as goal
 
 pub step-requires : goal.step-requires

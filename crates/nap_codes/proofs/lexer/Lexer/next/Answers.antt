@@ -1,6 +1,4 @@
-use Rattle.nap_codes.proofs.Common.{LexerState, [], ap, half_read_bytes, refl, rules, set_at, sym, ◌∙◌, ◌∷◌, ◌≡◌}
-use Rattle.nap_codes.specs.declared.code_set.CodeSets.{CodeSets}
-use Rattle.nap_codes.proofs.NextLemmas.{next_is, next_keeps}
+use Rattle.nap_codes.proofs.{CodeSets, LexerLemmas.next_is, LexerLemmas.next_keeps, LexerState, [], ap, half_read_bytes, refl, rules, set_at, sym, ◌∙◌, ◌∷◌, ◌≡◌}
 use Rattle.nap_codes.proofs.lexer.Lexer.next.Goals as goal
 
 pub invariant_of-self-in_default-code : goal.invariant_of-self-in_default-code

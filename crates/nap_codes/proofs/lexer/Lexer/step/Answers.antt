@@ -1,24 +1,23 @@
-use Rattle.nap_codes.proofs.Common.{ByteOutcome, front, refl}
-use Rattle.nap_codes.proofs.HalfLemmas.{half_unfinished, turn_more-IsHalfRead, turn-Steps}
+use Rattle.nap_codes.proofs.{LexerLemmas.half_unfinished, LexerLemmas.turn-Steps, LexerLemmas.turn_more-IsHalfRead, front, refl}
 use Rattle.nap_codes.proofs.lexer.Lexer.step.Goals as goal
 
 pub returns-in-More-clause-steps : goal.returns-in-More-clause-steps
 returns-in-More-clause-steps c =
-    rw (← c.self.view_is) (turn-Steps c.self.inside.sets c.self.inside.half c.args.byte (ByteOutcome.More c.in-More.half) c.self.invariant.0 c.in-More.ensures)
+    rw (← c.self.view_is) (turn-Steps _ _ _ _ c.self.invariant.0 c.in-More.ensures)
 
 pub returns-in-More-clause-before : goal.returns-in-More-clause-before
-returns-in-More-clause-before c = rw (← c.self.view_is) (half_unfinished c.self.inside.sets c.self.inside.half c.self.invariant.0)
+returns-in-More-clause-before c = rw (← c.self.view_is) (half_unfinished _ _ c.self.invariant.0)
 
 pub returns-in-More-clause-after : goal.returns-in-More-clause-after
 returns-in-More-clause-after c =
-    half_unfinished c.self.inside.sets c.in-More.half (turn_more-IsHalfRead c.self.inside.sets c.self.inside.half c.args.byte c.in-More.half c.in-More.ensures)
+    half_unfinished _ _ (turn_more-IsHalfRead c.self.inside.sets c.self.inside.half c.args.byte _ c.in-More.ensures)
 
 pub returns-in-Code-clause-steps : goal.returns-in-Code-clause-steps
 returns-in-Code-clause-steps c =
-    rw (← c.self.view_is) (turn-Steps c.self.inside.sets c.self.inside.half c.args.byte (ByteOutcome.Code c.in-Code.code c.in-Code.sets) c.self.invariant.0 c.in-Code.ensures)
+    rw (← c.self.view_is) (turn-Steps _ _ _ _ c.self.invariant.0 c.in-Code.ensures)
 
 pub returns-in-Code-clause-before : goal.returns-in-Code-clause-before
-returns-in-Code-clause-before c = rw (← c.self.view_is) (half_unfinished c.self.inside.sets c.self.inside.half c.self.invariant.0)
+returns-in-Code-clause-before c = rw (← c.self.view_is) (half_unfinished _ _ c.self.invariant.0)
 
 pub returns-in-Code-clause-after : goal.returns-in-Code-clause-after
 unfolding front
@@ -26,10 +25,10 @@ returns-in-Code-clause-after c = refl
 
 pub returns-in-Fault-clause-steps : goal.returns-in-Fault-clause-steps
 returns-in-Fault-clause-steps c =
-    rw (← c.self.view_is) (turn-Steps c.self.inside.sets c.self.inside.half c.args.byte (ByteOutcome.Fault c.in-Fault.fault) c.self.invariant.0 c.in-Fault.ensures)
+    rw (← c.self.view_is) (turn-Steps _ _ _ _ c.self.invariant.0 c.in-Fault.ensures)
 
 pub returns-in-Fault-clause-before : goal.returns-in-Fault-clause-before
-returns-in-Fault-clause-before c = rw (← c.self.view_is) (half_unfinished c.self.inside.sets c.self.inside.half c.self.invariant.0)
+returns-in-Fault-clause-before c = rw (← c.self.view_is) (half_unfinished _ _ c.self.invariant.0)
 
 pub returns-in-Fault-clause-after : goal.returns-in-Fault-clause-after
-returns-in-Fault-clause-after c = rw (← c.self.view_is) (half_unfinished c.self.inside.sets c.self.inside.half c.self.invariant.0)
+returns-in-Fault-clause-after c = rw (← c.self.view_is) (half_unfinished _ _ c.self.invariant.0)

@@ -1,5 +1,4 @@
-use Rattle.nap_command.proofs.Common.{IfOk-weaker, Question, refl, ◌∙◌}
-use Rattle.nap_command.proofs.AnswerLemmas.{answers_accepted, answers_unspelled}
+use Rattle.nap_command.proofs.{CommandLemmas.answers_accepted, CommandLemmas.answers_unspelled, IfOk-weaker, Question, refl, ◌∙◌}
 use Rattle.nap_command.proofs.batch.answer.canon_answer.Goals as goal
 
 pub returns-in-Ok : goal.returns-in-Ok

@@ -1,5 +1,4 @@
-use Rattle.nap_command.proofs.Common.{ap, count_line, ◌∙◌}
-use Rattle.nap_command.proofs.AnswerLemmas.{answers_made}
+use Rattle.nap_command.proofs.{CommandLemmas.answers_made, ap, count_line, ◌∙◌}
 use Rattle.nap_command.proofs.batch.answer.make_answer.Goals as goal
 
 pub returns-in_ok-count_line-in-Ok : goal.returns-in_ok-count_line-in-Ok

@@ -1,5 +1,4 @@
-use Rattle.nap_command.proofs.Common.{HasRead, None, budget_of, fed_of, length, lines, places_before, refusal_of, take, ◌-◌, ◌≡◌, ◌≤◌}
-use Rattle.nap_command.proofs.PlaceLemmas.{known, no_lines}
+use Rattle.nap_command.proofs.{HasRead, LineLemmas.known, LineLemmas.no_lines, None, budget_of, fed_of, length, lines, places_before, refusal_of, take, ◌-◌, ◌≡◌, ◌≤◌}
 use Rattle.nap_command.proofs.batch.places.read_places.Given as goal
 
 abbrev pub invariant-loop-place : goal.invariant-loop-place

@@ -1,4 +1,4 @@
-use Rattle.nap_command.proofs.Common.{arith}
+use Rattle.nap_command.proofs.{arith}
 use Rattle.nap_command.proofs.batch.request.number_below.Goals as goal
 
 pub returns-in_err-value : goal.returns-in_err-value

@@ -1,4 +1,4 @@
-use Rattle.nap_command.proofs.Common.{inr, no_memory, refl}
+use Rattle.nap_command.proofs.{inr, no_memory, refl}
 use Rattle.nap_command.proofs.batch.service.answer.Goals as goal
 
 pub returns-in-Err : goal.returns-in-Err

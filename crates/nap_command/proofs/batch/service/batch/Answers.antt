@@ -1,5 +1,4 @@
-use Rattle.nap_command.proofs.Common.{Appends-nil, Ended, [], refl}
-use Rattle.nap_command.proofs.CommandLemmas.{reported_written}
+use Rattle.nap_command.proofs.{Appends-nil, CommandLemmas.reported_written, Ended, [], refl}
 use Rattle.nap_command.proofs.batch.service.batch.Goals as goal
 
 pub returns-in-Done : goal.returns-in-Done

@@ -1,5 +1,4 @@
-use Rattle.nap_command.proofs.Common.{READ_SIZE, length, pipes, ◌≡◌}
-use Rattle.nap_command.proofs.GoingLemmas.{Going}
+use Rattle.nap_command.proofs.{READ_SIZE, SessionLemmas.Going, length, pipes, ◌≡◌}
 use Rattle.nap_command.proofs.batch.service.serve.Given as goal
 
 abbrev pub invariant-loop : goal.invariant-loop

@@ -1,4 +1,4 @@
-use Rattle.nap_command.proofs.Common.{Consumes-trans, arith, length-append, ◌++◌, ◌∙◌}
+use Rattle.nap_command.proofs.{Consumes-trans, arith, length-append, ◌++◌, ◌∙◌}
 use Rattle.nap_command.proofs.batch.waiting.skip.Goals as goal
 
 pub loop-preserved : goal.loop-preserved

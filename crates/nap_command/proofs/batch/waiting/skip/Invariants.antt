@@ -1,4 +1,4 @@
-use Rattle.nap_command.proofs.Common.{Consumes, List, length, ℕ, ◌+◌, ◌≡◌, ◌≤◌}
+use Rattle.nap_command.proofs.{Consumes, List, length, ℕ, ◌+◌, ◌≡◌, ◌≤◌}
 use Rattle.nap_command.proofs.batch.waiting.skip.Given as goal
 
 abbrev pub invariant-loop : goal.invariant-loop

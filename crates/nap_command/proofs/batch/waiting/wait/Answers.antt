@@ -1,6 +1,7 @@
-use Rattle.nap_command.proofs.Common.{Consumes-nil, Consumes-trans, Ended, Err, FoundRequest, IsFound, IsLast, IsWhole, List, NeverStarts, Ok, ReadStep, Result, [], ap, append-nil, append_assoc, arith, err_from_is_err_and, inl, length-append, refl, rules, subst, sym, ℕ, ◌++◌, ◌∙◌, ◌≡◌}
-use Rattle.nap_command.proofs.FrontLemmas.{stays_within}
-use Rattle.nap_command.proofs.WaitLemmas.{finds_dropped, finds_end, finds_last, finds_now, longer}
+use Rattle.nap_command.proofs.{Consumes-nil, Consumes-trans, Ended, Err, FoundRequest, IsWhole, Ok, ReadStep, [], ap, append-nil, append_assoc, arith, err_from_is_err_and, inl, length-append, refl, rules, subst, sym, ◌++◌, ◌∙◌, ◌≡◌}
+use Rattle.nap_command.specs.Requests.{NeverStarts}
+use Rattle.nap_command.specs.Waiting.{IsLast}
+use Rattle.nap_command.proofs.FrontLemmas.{finds_dropped, finds_end, finds_last, finds_now, longer, stays_within}
 use Rattle.nap_command.proofs.batch.waiting.wait.Goals as goal
 
 pub loop-reads-init : goal.loop-reads-init
@@ -11,7 +12,7 @@ loop-reads-init g c = record {
   buffer = sym (append-nil c.args.buffer.now.bytes);
   some = omega arith;
   flag = refl;
-  keeps = stays_within c.args.buffer.now.bytes c.args.buffer.now.memory c.args.buffer.now.memory refl;
+  keeps = stays_within c.args.buffer.now.bytes refl;
 }
 
 pub loop-reads-preserved : goal.loop-reads-preserved
@@ -24,7 +25,7 @@ loop-reads-preserved g c =
       scratch = c.in_ok-read_more-in-More.ensures.space;
       bytes = inv.bytes ++ h.bytes;
       read = Consumes-trans _ _ _ inv.bytes h.bytes inv.read h.read;
-      buffer = buffer ∙ ap (λ (bytes : List ℕ). bytes ++ h.bytes) inv.buffer ∙ append_assoc c.args.buffer.now.bytes inv.bytes h.bytes;
+      buffer = buffer ∙ ap (λ bytes. bytes ++ h.bytes) inv.buffer ∙ append_assoc c.args.buffer.now.bytes inv.bytes h.bytes;
       some = omega (arith, inv.some, some, length-append inv.bytes h.bytes);
       flag = works ∙ inv.flag;
       keeps = longer g.I.Inlet c.args.buffer.now _ inv.bytes c.args.input.now _ inv.read inv.buffer inv.flag inv.keeps _ _ h;
@@ -33,7 +34,7 @@ loop-reads-preserved g c =
 pub returns-in-Whole-clause-found : goal.returns-in-Whole-clause-found
 returns-in-Whole-clause-found g c =
     let inv = c.loop-reads.invariant in
-    let whole = subst (λ (bytes : List ℕ). IsWhole bytes c.in-Whole.line c.in-Whole.start) (c.bytes.ensures ∙ inv.buffer) c.in-Whole.ensures in
+    let whole = subst (λ bytes. IsWhole bytes c.in-Whole.line c.in-Whole.start) (c.bytes.ensures ∙ inv.buffer) c.in-Whole.ensures in
     finds_now g.I.Inlet _ _ inv.bytes _ _ inv.read inv.buffer inv.flag inv.keeps (Ok (FoundRequest.Whole c.in-Whole.line c.in-Whole.start)) (inv.buffer, whole, inv.flag)
 
 pub returns-in-Wrong-clause-found : goal.returns-in-Wrong-clause-found
@@ -44,11 +45,8 @@ returns-in-Wrong-clause-found g c =
 pub returns-in_err-read_more-in-More-clause-found : goal.returns-in_err-read_more-in-More-clause-found
 returns-in_err-read_more-in-More-clause-found g c =
     let inv = c.loop-reads.invariant in
-    let end = c.in_err-read_more-in-More.field-0.0 in
     let e = err_from_is_err_and c.from_residual.result c.from_residual.ensures.1 in
-    let is : c.from_residual.result ≡ Err end = e.1 ∙ ap Err e.2 in
-    subst (λ (r : Result FoundRequest Ended). IsFound g.I.Inlet c.args.buffer.now c.read_more.new.buffer c.args.input.now c.read_more.new.input r) (sym is)
-    (finds_end g.I.Inlet _ _ inv.bytes _ _ inv.read inv.buffer inv.flag inv.keeps _ _ end c.in_err-read_more-in-More.ensures.steps)
+    rw (e.1, e.2) (finds_end g.I.Inlet _ _ inv.bytes _ _ inv.read inv.buffer inv.flag inv.keeps _ _ _ c.in_err-read_more-in-More.ensures.steps)
 
 pub returns-then-eq-clause-found : goal.returns-then-eq-clause-found
 returns-then-eq-clause-found g c =
@@ -59,5 +57,5 @@ returns-then-eq-clause-found g c =
 pub returns-clause-found : goal.returns-clause-found
 returns-clause-found g c =
     let inv = c.loop-reads.invariant in
-    let last = subst (λ (bytes : List ℕ). IsLast bytes c.final_front.result) c.bytes-2.ensures c.final_front.ensures in
-    finds_last g.I.Inlet _ _ inv.bytes _ _ inv.read inv.buffer inv.flag inv.keeps c.final_front.result (omega (arith, inv.some, c.loop-reads-test.false)) last
+    finds_last g.I.Inlet _ _ inv.bytes _ _ inv.read inv.buffer inv.flag inv.keeps c.final_front.result (omega (arith, inv.some, c.loop-reads-test.false))
+    (subst (λ bytes. IsLast bytes c.final_front.result) c.bytes-2.ensures c.final_front.ensures)

@@ -1,4 +1,4 @@
-use Rattle.nap_command.proofs.Common.{Consumes, KeepsWithin, List, READ_SIZE, length, ℕ, ◌++◌, ◌≡◌, ◌≤◌}
+use Rattle.nap_command.proofs.{Consumes, KeepsWithin, List, READ_SIZE, length, ℕ, ◌++◌, ◌≡◌, ◌≤◌}
 use Rattle.nap_command.proofs.batch.waiting.wait.Given as goal
 
 abbrev pub invariant-loop-reads : goal.invariant-loop-reads

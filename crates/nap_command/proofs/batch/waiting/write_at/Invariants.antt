@@ -1,4 +1,4 @@
-use Rattle.nap_command.proofs.Common.{take, vec_capacity, ◌++◌, ◌≡◌}
+use Rattle.nap_command.proofs.{take, vec_capacity, ◌++◌, ◌≡◌}
 use Rattle.nap_command.proofs.batch.waiting.write_at.Given as goal
 
 -- what there is, and the bytes so far after it

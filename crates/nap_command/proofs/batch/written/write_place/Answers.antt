@@ -1,4 +1,4 @@
-use Rattle.nap_command.proofs.Common.{arith, length-decimal-le}
+use Rattle.nap_command.proofs.{arith, length-decimal-le}
 use Rattle.nap_command.proofs.batch.written.write_place.Goals as goal
 
 pub write_digits-from-requires : goal.write_digits-from-requires

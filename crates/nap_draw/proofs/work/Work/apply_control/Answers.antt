@@ -1,25 +1,23 @@
-use Rattle.nap_draw.proofs.Common.{Ok, [], ap, code_rule, refl, rule_result, ◌≡◌}
-use Rattle.nap_codes.specs.declared.code.Code.{Code}
-use Rattle.nap_draw.proofs.Acting.{obeys_quietly}
+use Rattle.nap_draw.proofs.{Code, Execution.obeys_quietly, Ok, [], ap, code_rule, refl, rule_result, ◌≡◌}
 use Rattle.nap_draw.proofs.work.Work.apply_control.Goals as goal
 
 pub returns-in-Named : goal.returns-in-Named
-returns-in-Named g c = obeys_quietly g.S.Sink _ c.args.self.now _ _ (g.met.S.Sink.took_none _) (ap (code_rule c.args.self.now) c.in-Named.is)
+returns-in-Named g c = obeys_quietly (g.met.S.Sink.took_none _) (ap (code_rule c.args.self.now) c.in-Named.is)
 
 pub returns-in-Reverse : goal.returns-in-Reverse
-returns-in-Reverse g c = obeys_quietly g.S.Sink _ c.args.self.now _ _ (g.met.S.Sink.took_none _) (ap (code_rule c.args.self.now) c.in-Reverse.is)
+returns-in-Reverse g c = obeys_quietly (g.met.S.Sink.took_none _) (ap (code_rule c.args.self.now) c.in-Reverse.is)
 
 pub returns-in-Underline : goal.returns-in-Underline
-returns-in-Underline g c = obeys_quietly g.S.Sink _ c.args.self.now _ _ (g.met.S.Sink.took_none _) (ap (code_rule c.args.self.now) c.in-Underline.is)
+returns-in-Underline g c = obeys_quietly (g.met.S.Sink.took_none _) (ap (code_rule c.args.self.now) c.in-Underline.is)
 
 pub returns-in-Wrap : goal.returns-in-Wrap
-returns-in-Wrap g c = obeys_quietly g.S.Sink _ c.args.self.now _ _ (g.met.S.Sink.took_none _) (ap (code_rule c.args.self.now) c.in-Wrap.is)
+returns-in-Wrap g c = obeys_quietly (g.met.S.Sink.took_none _) (ap (code_rule c.args.self.now) c.in-Wrap.is)
 
 pub returns-in-Scroll : goal.returns-in-Scroll
-returns-in-Scroll g c = obeys_quietly g.S.Sink _ c.args.self.now _ _ (g.met.S.Sink.took_none _) (ap (code_rule c.args.self.now) c.in-Scroll.is)
+returns-in-Scroll g c = obeys_quietly (g.met.S.Sink.took_none _) (ap (code_rule c.args.self.now) c.in-Scroll.is)
 
 pub returns-in_default : goal.returns-in_default
-returns-in_default g c = obeys_quietly g.S.Sink _ c.args.self.now _ c.args.sink.now (g.met.S.Sink.took_none c.args.sink.now) (other c.args.code.now refl)
+returns-in_default g c = obeys_quietly (g.met.S.Sink.took_none _) (other c.args.code.now refl)
   where
     other : (code : Code) → c.args.code.now ≡ code → code_rule c.args.self.now code ≡ Ok (rule_result c.args.self.now [])
     other Code.Bell is = absurd (c.in_default.not-Bell is)

@@ -1,15 +1,9 @@
-use Rattle.nap_draw.proofs.Common.{EqualCurrent, List, PutsSoFar, ap, arith, blink, chunks_rest, chunks_size, clears_nothing, colour_only, length, map, nat_tests, one_fits, one_goes, one_stops, operand_words, operands, put_begins, put_ends, refl, rules, sink_model_of, subst, sym, ℕ, ◌+◌, ◌<◌, ◌∙◌, ◌≡◌}
-use Rattle.nap_list.specs.declared.entry.Entry.TheVariants.{BlinkEnd}
-use Rattle.nap_draw.proofs.Acting.{does_as, does_put, does_stop}
-use Rattle.nap_draw.proofs.Results.{blink_none, blink_some}
-use Rattle.nap_draw.proofs.Walks.{blink_left, blink_stays, left_by, stays_fit}
-use Rattle.nap_draw.proofs.ByteRuns.{carried_length, operands_none}
+use Rattle.nap_draw.proofs.{Common.operands, Entry, EqualCurrent, Execution.does_as, Execution.does_put, Execution.does_stop, List, PutsSoFar, Results.blink_none, Results.blink_some, Runs.byte_operands_none, Runs.carried_length, Walks.blink_left, Walks.blink_stays, Walks.left_by, Walks.stays_fit, ap, arith, blink, chunks_rest, chunks_size, clears_nothing, colour_only, length, map, nat_tests, one_fits, one_goes, one_stops, operand_words, put_begins, put_ends, refl, rules, subst, sym, ℕ, ◌+◌, ◌∙◌, ◌≡◌}
 use Rattle.nap_draw.proofs.work.Work.blink.Goals as goal
 
 pub returns-then-is_empty : goal.returns-then-is_empty
 returns-then-is_empty g c =
-    let none : length (operand_words c.args.run.now) ≡ 0 = grind (arith, nat_tests, carried_length c.args.run.now) in
-    does_as g.S.Sink clears_nothing _ _ _ _ _ _ _ _ (blink_none c.args.self.now (operand_words c.args.run.now) none) c.put_and_set_pen.ensures.does
+    does_as g.S.Sink clears_nothing _ _ _ _ _ _ (blink_none c.args.self.now _ (grind (arith, nat_tests, carried_length))) c.put_and_set_pen.ensures.does
 
 pub put_and_set_pen-requires : goal.put_and_set_pen-requires
 put_and_set_pen-requires g c =
@@ -18,7 +12,7 @@ put_and_set_pen-requires g c =
     record {
       agrees = c.requires;
       follows = record { holds = current; made = tt; comes = tt };
-      leaves = left_by s (BlinkEnd s.drawing.colour) current c.requires.drawing.mode;
+      leaves = left_by s (Entry.BlinkEnd s.drawing.colour) current c.requires.drawing.mode;
     }
 
 pub loop-group-init : goal.loop-group-init
@@ -32,17 +26,16 @@ loop-group-init g c =
       finite = tt;
       size = size;
       putting = subst (λ (run : List ℕ). PutsSoFar g.S.Sink c.args.sink.now c.args.sink.now (entries c.args.run.now) (entries run))
-          (sym all) (put_begins (sink_model_of g.S.Sink) c.args.sink.now _ (g.met.S.Sink.took_none c.args.sink.now));
+          (sym all) (put_begins _ _ _ (g.met.S.Sink.took_none _));
     }
 
 pub put-requires : goal.put-requires
 put-requires g c =
     let inv = c.loop-group.invariant in
-    let steps = c.in-Some.ensures.steps in
     let s = c.args.self.now.state in
     let k = c.args.self.now.domain.single in
-    one_fits (sink_model_of g.S.Sink) _ _ _ _ _ c.blink_of.result inv.putting (blink_left k _ _ _ _ _ _ inv.size steps.1.0 steps.1.1 steps.1.2 c.blink_of.ensures)
-    (stays_fit s.drawing (blink k s.drawing.colour) (blink_stays s.drawing k c.requires.drawing.mode) s s.last (operands (k + 3) (operand_words c.args.run.now)) _ c.requires).0
+    one_fits _ _ _ _ _ _ c.blink_of.result inv.putting (blink_left k _ _ _ inv.size c.in-Some.ensures.steps.1 c.blink_of.ensures)
+    (stays_fit (blink_stays s.drawing k c.requires.drawing.mode) s s.last (operands (k + 3) (operand_words c.args.run.now)) _ c.requires).0
 
 pub loop-group-preserved : goal.loop-group-preserved
 loop-group-preserved g c =
@@ -53,23 +46,19 @@ loop-group-preserved g c =
       can = omega (arith, steps.0, inv.can);
       finite = tt;
       size = steps.0 ∙ inv.size;
-      putting = one_goes (sink_model_of g.S.Sink) _ _ _ _ inv.putting g.met.S.Sink.took_more _ c.blink_of.result _ (blink_left c.args.self.now.domain.single _ _ _ _ _ _ inv.size steps.1.0 steps.1.1 steps.1.2 c.blink_of.ensures)
+      putting = one_goes _ _ _ _ _ inv.putting g.met.S.Sink.took_more _ c.blink_of.result _ (blink_left c.args.self.now.domain.single _ _ _ inv.size steps.1 c.blink_of.ensures)
           put.took put.after put.only_write put.refuses;
     }
 
 pub returns-in_err-put : goal.returns-in_err-put
 returns-in_err-put g c =
     let inv = c.loop-group.invariant in
-    let steps = c.in-Some.ensures.steps in
-    let put = c.in_err-put.ensures in
-    let some : 0 < length (operand_words c.args.run.now) = grind (arith, nat_tests, carried_length c.args.run.now) in
-    does_stop g.S.Sink clears_nothing _ _ _ _ _ _ _ _ c.from_residual.ensures.1 (blink_some c.args.self.now (operand_words c.args.run.now) c.requires.drawing.mode some)
-    (one_stops (sink_model_of g.S.Sink) (Unit {0}) _ _ _ _ inv.putting (g.met.S.Sink.took_none _) g.met.S.Sink.took_more g.met.S.Sink.took_broke g.met.S.Sink.wants_more _ c.blink_of.result _ _
-    (blink_left c.args.self.now.domain.single _ _ _ _ _ _ inv.size steps.1.0 steps.1.1 steps.1.2 c.blink_of.ensures) (record { memory = put.memory; wants = put.wants; refuses = put.refuses; write = put.write; only_write = put.only_write; broke = put.broke; still = put.still }))
+    does_stop g.S.Sink clears_nothing _ _ _ _ _ _ c.from_residual.ensures.1 (blink_some c.args.self.now _ c.requires.drawing.mode (grind (arith, nat_tests, carried_length)))
+    (one_stops _ (Unit {0}) _ _ _ _ inv.putting (g.met.S.Sink.took_none _) g.met.S.Sink.took_more g.met.S.Sink.took_broke g.met.S.Sink.wants_more _ c.blink_of.result _ _
+    (blink_left c.args.self.now.domain.single _ _ _ inv.size c.in-Some.ensures.steps.1 c.blink_of.ensures) (grind arith))
 
 pub returns : goal.returns
 returns g c =
     let k = c.args.self.now.domain.single in
-    let some : 0 < length (operand_words c.args.run.now) = grind (arith, nat_tests, carried_length c.args.run.now) in
-    does_put g.S.Sink clears_nothing ⊥ _ c.args.self.now _ _ _ _ (tt {0}) (blink_some c.args.self.now (operand_words c.args.run.now) c.requires.drawing.mode some)
-    (put_ends (sink_model_of g.S.Sink) _ _ _ _ c.loop-group.invariant.putting (ap (map (blink k c.args.self.now.state.drawing.colour)) (operands_none (k + 3) _ c.in-None.ensures.steps.1.0)))
+    does_put g.S.Sink clears_nothing ⊥ c.args.self.now _ _ (tt {0}) (blink_some c.args.self.now _ c.requires.drawing.mode (grind (arith, nat_tests, carried_length)))
+    (put_ends _ _ _ _ _ c.loop-group.invariant.putting (ap (map (blink k c.args.self.now.state.drawing.colour)) (byte_operands_none (k + 3) _ c.in-None.ensures.steps.1.0)))

@@ -1,4 +1,4 @@
-use Rattle.nap_draw.proofs.Common.{PutsSoFar, blink, chunks_rest, chunks_size, map, operand_words, operands, ◌+◌, ◌≡◌}
+use Rattle.nap_draw.proofs.{PutsSoFar, blink, chunks_rest, chunks_size, map, operand_words, Common.operands, ◌+◌, ◌≡◌}
 use Rattle.nap_draw.proofs.work.Work.blink.Given as goal
 
 abbrev pub invariant-loop-group : goal.invariant-loop-group

@@ -1,12 +1,12 @@
-use Rattle.nap_draw.proofs.Common.{All, AllFit, Entry, IsTextByte, List, State, ap, err_from_is_err_and, subst, sym}
-use Rattle.nap_draw.proofs.Texts.{last_typed, text_is, text_left, text_fits, text_agrees, text_none, no_codes}
+use Rattle.nap_draw.proofs.{All, AllFit, IsTextByte, State, ap, err_from_is_err_and, subst, sym}
+use Rattle.nap_draw.proofs.Walks.{last_typed, no_codes, text_agrees, text_fits, text_is, text_left, text_none}
 use Rattle.nap_draw.proofs.work.Work.characters.Goals as goal
 
 pub put_batch-requires : goal.put_batch-requires
 put_batch-requires g c =
     let s = c.args.self.now.state in
     let list = text_is s c.args.set c.args.codes.now c.requires.agrees.drawing.mode in
-    subst (λ (list : List Entry). AllFit (g.S.Sink.state c.args.sink.now) list) list (text_fits s _ c.args.set c.args.codes.now c.requires.agrees c.requires.made).0
+    subst (AllFit (g.S.Sink.state c.args.sink.now)) list (text_fits s _ c.args.set c.args.codes.now c.requires.agrees c.requires.made).0
 
 pub returns-in_err-put_batch-clause-put : goal.returns-in_err-put_batch-clause-put
 returns-in_err-put_batch-clause-put g c =

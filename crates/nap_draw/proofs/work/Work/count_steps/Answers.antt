@@ -1,5 +1,4 @@
-use Rattle.nap_draw.proofs.Common.{ap, arith, moves, operand_words, points_reached, ℕ, ◌∙◌, ◌≡◌}
-use Rattle.nap_draw.proofs.Counting.{trail_counted}
+use Rattle.nap_draw.proofs.{Execution.trail_counted, ap, arith, moves, operand_words, points_reached, ℕ, ◌∙◌, ◌≡◌}
 use Rattle.nap_draw.proofs.work.Work.count_steps.Goals as goal
 
 pub returns-clause-counted : goal.returns-clause-counted

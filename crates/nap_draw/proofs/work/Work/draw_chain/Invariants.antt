@@ -1,4 +1,4 @@
-use Rattle.nap_draw.proofs.Common.{None, PutsSoFar, drop, last_or, map, rect_on, rect_spans, ◌≡◌}
+use Rattle.nap_draw.proofs.{None, PutsSoFar, drop, last_or, map, rect_on, rect_spans, ◌≡◌}
 use Rattle.nap_draw.proofs.work.Work.draw_chain.Given as goal
 
 abbrev pub invariant-loop-to : goal.invariant-loop-to

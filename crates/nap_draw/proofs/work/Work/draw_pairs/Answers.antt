@@ -1,8 +1,5 @@
-use Rattle.nap_draw.proofs.Common.{Coordinates, List, None, PutsSoFar, ap, arith, chunks_exact_rest, chunks_exact_size, clears_nothing, figure_end, figure_entry, last_or, map, one_fits, one_goes, one_stops, option_map, pair_spans, put_begins, put_ends, refl, rules, sink_model_of, subst, sym, ◌∙◌, ◌≡◌}
-use Rattle.nap_draw.proofs.Acting.{does_put, does_stop}
-use Rattle.nap_draw.proofs.Decoding.{end_here, paired_few, paired_last, paired_left, two_of}
-use Rattle.nap_draw.proofs.Fits.{all_fit}
-use Rattle.nap_draw.proofs.Walks.{draws_end, stroke_lands}
+use Rattle.nap_draw.proofs.{Coordinates, Fits.all_fit, List, None, PutsSoFar, Walks.draws_end, Walks.stroke_lands, ap, arith, chunks_exact_rest, chunks_exact_size, clears_nothing, figure_end, figure_entry, last_or, map, one_fits, one_goes, one_stops, option_map, pair_spans, put_begins, put_ends, refl, rules, subst, sym, ◌∙◌, ◌≡◌}
+use Rattle.nap_draw.proofs.Execution.{does_put, does_stop, end_here, paired_few, paired_last, paired_left, two_of}
 use Rattle.nap_draw.proofs.work.Work.draw_pairs.Goals as goal
 
 pub loop-pair-init : goal.loop-pair-init
@@ -16,15 +13,15 @@ loop-pair-init g c =
       size = size;
       last = ap (λ (ps : List Coordinates). last_or None (pair_spans ps)) all;
       putting = subst (λ (ps : List Coordinates). PutsSoFar g.S.Sink c.args.sink.now c.args.sink.now (entries c.args.points.now) (entries ps))
-          (sym all) (put_begins (sink_model_of g.S.Sink) c.args.sink.now _ (g.met.S.Sink.took_none c.args.sink.now));
+          (sym all) (put_begins _ _ _ (g.met.S.Sink.took_none _));
     }
 
 pub put-requires : goal.put-requires
 put-requires g c =
     let steps = c.in-Some.ensures.steps in
     let left = two_of _ _ _ _ _ (steps.1.1 ∙ c.loop-pair.invariant.size) c.index-pair-0.is c.index-pair-1.is steps.1.0 in
-    one_fits (sink_model_of g.S.Sink) _ _ _ _ _ _ c.loop-pair.invariant.putting (paired_left _ c.args.self.now.state.drawing _ _ _ _ _ left c.entry.ensures)
-    (all_fit (figure_entry c.args.figure) (figure_end c.args.figure) (stroke_lands c.args.figure) c.args.self.now.state None (pair_spans c.args.points.now) _ c.requires).0
+    one_fits _ _ _ _ _ _ _ c.loop-pair.invariant.putting (paired_left _ c.args.self.now.state.drawing _ _ _ _ _ left c.entry.ensures)
+    (all_fit (stroke_lands c.args.figure) c.args.self.now.state None (pair_spans c.args.points.now) _ c.requires).0
 
 pub loop-pair-preserved : goal.loop-pair-preserved
 loop-pair-preserved g c =
@@ -37,17 +34,16 @@ loop-pair-preserved g c =
       finite = tt;
       size = steps.0 ∙ inv.size;
       last = paired_last _ _ _ _ _ left ∙ inv.last;
-      putting = one_goes (sink_model_of g.S.Sink) _ _ _ _ inv.putting g.met.S.Sink.took_more _ c.entry.result _
+      putting = one_goes _ _ _ _ _ inv.putting g.met.S.Sink.took_more _ c.entry.result _
           (paired_left _ c.args.self.now.state.drawing _ _ _ _ _ left c.entry.ensures) put.took put.after put.only_write put.refuses;
     }
 
 pub returns-in_err-put : goal.returns-in_err-put
 returns-in_err-put g c =
     let steps = c.in-Some.ensures.steps in
-    let put = c.in_err-put.ensures in
     let left = two_of _ _ _ _ _ (steps.1.1 ∙ c.loop-pair.invariant.size) c.index-pair-0.is c.index-pair-1.is steps.1.0 in
-    does_stop g.S.Sink clears_nothing _ _ _ _ _ _ _ _ c.from_residual.ensures.1 refl (one_stops (sink_model_of g.S.Sink) (Unit {0}) _ _ _ _ c.loop-pair.invariant.putting (g.met.S.Sink.took_none _) g.met.S.Sink.took_more g.met.S.Sink.took_broke g.met.S.Sink.wants_more _ c.entry.result _ _
-    (paired_left _ c.args.self.now.state.drawing _ _ _ _ _ left c.entry.ensures) (record { memory = put.memory; wants = put.wants; refuses = put.refuses; write = put.write; only_write = put.only_write; broke = put.broke; still = put.still }))
+    does_stop g.S.Sink clears_nothing _ _ _ _ _ _ c.from_residual.ensures.1 refl (one_stops _ (Unit {0}) _ _ _ _ c.loop-pair.invariant.putting (g.met.S.Sink.took_none _) g.met.S.Sink.took_more g.met.S.Sink.took_broke g.met.S.Sink.wants_more _ c.entry.result _ _
+    (paired_left _ c.args.self.now.state.drawing _ _ _ _ _ left c.entry.ensures) (grind arith))
 
 pub returns : goal.returns
 returns g c =
@@ -55,6 +51,6 @@ returns g c =
     let inv = c.loop-pair.invariant in
     let none = paired_few (chunks_exact_rest c.loop-pair.pair-iterator) (omega (arith, c.in-None.ensures.steps.1.0, inv.size)) in
     let last = c.end.ensures ∙ ap (option_map (figure_end c.args.figure)) (sym (end_here c.loop-pair.last _ none) ∙ inv.last) in
-    rw c.move_pen_to.ensures (does_put g.S.Sink clears_nothing ⊥ _ w _ _ _ _ (tt {0})
-    (draws_end (figure_entry c.args.figure) (figure_end c.args.figure) (stroke_lands c.args.figure) w (pair_spans c.args.points.now) c.end.result c.requires.drawing.mode last)
-    (put_ends (sink_model_of g.S.Sink) _ _ _ _ inv.putting (ap (map (figure_entry c.args.figure w.state.drawing)) none)))
+    rw c.move_pen_to.ensures (does_put g.S.Sink clears_nothing ⊥ w _ _ (tt {0})
+    (draws_end (stroke_lands c.args.figure) w (pair_spans c.args.points.now) c.end.result c.requires.drawing.mode last)
+    (put_ends _ _ _ _ _ inv.putting (ap (map (figure_entry c.args.figure w.state.drawing)) none)))

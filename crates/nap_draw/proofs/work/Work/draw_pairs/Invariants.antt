@@ -1,4 +1,4 @@
-use Rattle.nap_draw.proofs.Common.{None, PutsSoFar, chunks_exact_rest, chunks_exact_size, figure_entry, last_or, map, pair_spans, ◌≡◌}
+use Rattle.nap_draw.proofs.{None, PutsSoFar, chunks_exact_rest, chunks_exact_size, figure_entry, last_or, map, pair_spans, ◌≡◌}
 use Rattle.nap_draw.proofs.work.Work.draw_pairs.Given as goal
 
 abbrev pub invariant-loop-pair : goal.invariant-loop-pair

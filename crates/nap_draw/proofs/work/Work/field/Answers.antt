@@ -1,7 +1,4 @@
-use Rattle.nap_draw.proofs.Common.{arith}
-use Rattle.nap_draw.proofs.Acting.{does_as, does_refused}
-use Rattle.nap_draw.proofs.Walks.{left_by}
-use Rattle.nap_draw.proofs.Results.{area_stream}
+use Rattle.nap_draw.proofs.{Execution.does_as, Execution.does_refused, Results.area_stream, Walks.left_by, arith}
 use Rattle.nap_draw.proofs.work.Work.field.Goals as goal
 
 pub put_and_set_pen-requires : goal.put_and_set_pen-requires

@@ -1,14 +1,13 @@
-use Rattle.nap_draw.proofs.Common.{Err, ap, entries_result, option_map, polyline_spans, refl, span_line_entry}
-use Rattle.nap_draw.proofs.Acting.{does_refused, does_unfilled, does_filled}
+use Rattle.nap_draw.proofs.{Err, Execution.does_filled, Execution.does_refused, Execution.does_unfilled, ap, entries_result, option_map, polyline_spans, refl, span_line_entry}
 use Rattle.nap_draw.proofs.work.Work.line_abs.Goals as goal
 
 pub returns-in_err-from-clause-acts : goal.returns-in_err-from-clause-acts
-returns-in_err-from-clause-acts g c = does_refused g.S.Sink _ (g.met.S.Sink.took_none _) _ _ _ _ _ c.from_residual.ensures.1 c.in_err-from.ensures.err.0 (c.in_err-from.ensures.err.1 _)
+returns-in_err-from-clause-acts g c = does_refused g.S.Sink _ (g.met.S.Sink.took_none _) _ _ _ c.from_residual.ensures.1 c.in_err-from.ensures.err.0 (c.in_err-from.ensures.err.1 _)
 
 pub returns-in_err-points_into-clause-acts : goal.returns-in_err-points_into-clause-acts
 returns-in_err-points_into-clause-acts g c =
-    does_unfilled g.S.Sink _ (g.met.S.Sink.took_none _) _ _ _ _ _ _ c.from_residual-in_err-points_into.ensures.1 (λ o. entries_result c.args.self.now span_line_entry (option_map (polyline_spans c.in_ok-from.from) o))
+    does_unfilled g.S.Sink _ (g.met.S.Sink.took_none _) _ _ _ _ _ c.from_residual-in_err-points_into.ensures.1 (λ o. entries_result c.args.self.now span_line_entry (option_map (polyline_spans c.in_ok-from.from) o))
     (c.in_ok-from.ensures.ok _) refl (λ xs. (_, refl)) c.in_err-points_into.ensures.fills (λ e. c.in_err-points_into.ensures.memory.1 (ap Err e))
 
 pub returns-clause-acts : goal.returns-clause-acts
-returns-clause-acts g c = does_filled g.S.Sink _ _ _ _ _ _ _ (λ o. entries_result c.args.self.now span_line_entry (option_map (polyline_spans c.in_ok-from.from) o)) (λ ps. ps) _ _ _ (c.in_ok-from.ensures.ok _) c.in_ok-points_into.ensures.fills c.deref.ensures.value c.draw_polyline.ensures
+returns-clause-acts g c = does_filled g.S.Sink _ _ _ _ _ _ (λ o. entries_result c.args.self.now span_line_entry (option_map (polyline_spans c.in_ok-from.from) o)) (λ ps. ps) _ _ (c.in_ok-from.ensures.ok _) c.in_ok-points_into.ensures.fills c.deref.ensures.value c.draw_polyline.ensures

@@ -1,6 +1,4 @@
-use Rattle.nap_draw.proofs.Common.{[], ap, arith, operand_words, point_at, refl, sym, ◌∙◌}
-use Rattle.nap_draw.proofs.ByteRuns.{one_of_three}
-use Rattle.nap_draw.proofs.Results.{goes_end, pen_after, sets_once}
+use Rattle.nap_draw.proofs.{Results.goes_end, Results.pen_after, Results.sets_once, Runs.one_of_three, [], ap, arith, operand_words, point_at, refl, sym, ◌∙◌}
 use Rattle.nap_draw.proofs.work.Work.point_set_abs.Goals as goal
 
 pub returns-in_default : goal.returns-in_default

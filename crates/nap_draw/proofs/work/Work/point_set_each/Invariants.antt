@@ -1,4 +1,4 @@
-use Rattle.nap_draw.proofs.Common.{Filling, None, chunks_rest, chunks_size, false, last_or, moves, operand_words, points_at, with_pen, with_pen_at, ◌≡◌}
+use Rattle.nap_draw.proofs.{Filling, None, chunks_rest, chunks_size, false, last_or, moves, operand_words, points_at, with_pen, with_pen_at, ◌≡◌}
 use Rattle.nap_draw.proofs.work.Work.point_set_each.Given as goal
 
 abbrev pub invariant-loop-operand : goal.invariant-loop-operand

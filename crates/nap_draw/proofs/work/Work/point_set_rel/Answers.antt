@@ -1,8 +1,5 @@
-use Rattle.nap_draw.proofs.Common.{List, ap, arith, chunks_rest, chunks_size, displaced_point, last_or, moves, operand_words, pen_result, points_reached, refl, sym, ℕ, ◌∙◌}
-use Rattle.nap_draw.proofs.Acting.{sets_refused}
-use Rattle.nap_draw.proofs.ByteRuns.{moves_chunk, moves_none}
-use Rattle.nap_draw.proofs.Decoding.{cons_if_all_more, cons_if_all_none, filling_begins, filling_end, filling_more, filling_none, reached_turn}
-use Rattle.nap_draw.proofs.Results.{end_after, goes_end, pen_reached}
+use Rattle.nap_draw.proofs.{List, Results.end_after, Results.goes_end, Results.pen_reached, Runs.bytes_chunk, Runs.bytes_none, ap, arith, chunks_rest, chunks_size, displaced_point, last_or, moves, operand_words, pen_result, points_reached, refl, sym, ℕ, ◌∙◌}
+use Rattle.nap_draw.proofs.Execution.{cons_if_all_more, cons_if_all_none, filling_begins, filling_end, filling_more, filling_none, reached_turn, sets_refused}
 use Rattle.nap_draw.proofs.work.Work.point_set_rel.Goals as goal
 
 pub returns-in_err-at : goal.returns-in_err-at
@@ -16,28 +13,27 @@ loop-operand-init c =
       can = omega (arith, c.from.ensures, c.multi.ensures.value, c.multi.ensures.least, c.chunks-operand-items.ensures.size, ap chunks_size given);
       finite = tt;
       size = omega (arith, c.from.ensures, c.multi.ensures.value, c.chunks-operand-items.ensures.size, ap chunks_size given);
-      filling = filling_begins _ _ _ _ (ap (λ (run : List ℕ). points_reached c.in_ok-at.at (moves c.args.self.now.domain.multi (operand_words run))) (sym (ap chunks_rest given ∙ c.chunks-operand-items.ensures.rest))) refl;
+      filling = filling_begins _ (ap (λ (run : List ℕ). points_reached c.in_ok-at.at (moves c.args.self.now.domain.multi (operand_words run))) (sym (ap chunks_rest given ∙ c.chunks-operand-items.ensures.rest))) refl;
     }
 
 pub returns-in_default : goal.returns-in_default
 returns-in_default c =
     let inv = c.loop-operand.invariant in
-    let steps = c.in-Some.ensures.steps in
-    let cut = moves_chunk c.args.self.now.domain.multi _ _ _ _ inv.size (omega (arith, c.multi.ensures.value, c.multi.ensures.least)) steps.1.0 steps.1.1 steps.1.2 in
-    let none = filling_none _ _ _ _ inv.filling (cons_if_all_none _ _ _ (reached_turn _ _ _ _ cut) (sym (c.by.ensures ∙ ap (displaced_point c.loop-operand.at) c.multi_bytes.ensures) ∙ c.in_default.is)) in
+    let cut = bytes_chunk _ _ inv.size c.multi.ensures.value c.multi.ensures.least c.in-Some.ensures.steps.1 in
+    let none = filling_none inv.filling (cons_if_all_none _ (reached_turn _ cut) (sym (c.by.ensures ∙ ap (displaced_point c.loop-operand.at) c.multi_bytes.ensures) ∙ c.in_default.is)) in
     (refl, c.in_ok-at.ensures.ok _ ∙ ap (pen_result c.args.self.now) none)
 
 pub loop-operand-preserved : goal.loop-operand-preserved
 loop-operand-preserved c =
     let inv = c.loop-operand.invariant in
     let steps = c.in-Some.ensures.steps in
-    let cut = moves_chunk c.args.self.now.domain.multi _ _ _ _ inv.size (omega (arith, c.multi.ensures.value, c.multi.ensures.least)) steps.1.0 steps.1.1 steps.1.2 in
+    let cut = bytes_chunk _ _ inv.size c.multi.ensures.value c.multi.ensures.least steps.1 in
     record {
       can = omega (arith, steps.0, inv.can);
       finite = tt;
       size = steps.0 ∙ inv.size;
-      filling = filling_more _ _ _ c.in-Some-by.point _ _ _ _ inv.filling
-          (cons_if_all_more _ _ _ _ (reached_turn _ _ _ _ cut) (sym (c.by.ensures ∙ ap (displaced_point c.loop-operand.at) c.multi_bytes.ensures) ∙ c.in-Some-by.is))
+      filling = filling_more c.in-Some-by.point inv.filling
+          (cons_if_all_more _ (reached_turn _ cut) (sym (c.by.ensures ∙ ap (displaced_point c.loop-operand.at) c.multi_bytes.ensures) ∙ c.in-Some-by.is))
           (λ e. e)
           (λ prefix e kept. end_after _ prefix c.in-Some-by.point);
     }
@@ -46,6 +42,6 @@ pub returns : goal.returns
 unfolding points_reached
 returns c =
     let filling = c.loop-operand.invariant.filling in
-    let all = filling_end _ _ _ _ filling (ap (points_reached _) (moves_none _ _ c.in-None.ensures.steps.1.0)) in
+    let all = filling_end filling (ap (points_reached _) (bytes_none _ _ c.in-None.ensures.steps.1.0)) in
     let last = pen_reached c.args.self.now _ _ _ filling.prefix c.in_ok-at.ensures.ok all (filling.kept refl) in
     c.in_ok-at.ensures.ok _ ∙ (ap (pen_result c.args.self.now) all ∙ goes_end c.args.self.now filling.prefix _ last)

@@ -1,4 +1,4 @@
-use Rattle.nap_draw.proofs.Common.{Filling, Some, chunks_rest, chunks_size, false, last_or, moves, operand_words, points_reached, ◌≡◌}
+use Rattle.nap_draw.proofs.{Filling, Some, chunks_rest, chunks_size, false, last_or, moves, operand_words, points_reached, ◌≡◌}
 use Rattle.nap_draw.proofs.work.Work.point_set_rel.Given as goal
 
 abbrev pub invariant-loop-operand : goal.invariant-loop-operand

@@ -1,6 +1,5 @@
-use Rattle.nap_draw.proofs.Common.{LastChar, Ok, Option, ap, arith, nat_tests, refl, repeated_chars, rule_result, sink_model_of, some_put, with_last, ◌<◌, ◌∙◌, ◌≡◌}
-use Rattle.nap_draw.proofs.Acting.{obeys_fully, obeys_put, obeys_quietly, obeys_stop}
-use Rattle.nap_draw.proofs.Texts.{last_is_code, prefix_some, prefix_typed, repeat_is}
+use Rattle.nap_draw.proofs.{LastChar, Ok, Option, Walks.last_is_code, Walks.prefix_some, Walks.prefix_typed, Walks.repeat_is, ap, arith, nat_tests, refl, repeated_chars, rule_result, some_put, with_last, ◌<◌, ◌∙◌, ◌≡◌}
+use Rattle.nap_draw.proofs.Execution.{obeys_fully, obeys_put, obeys_quietly, obeys_stop}
 use Rattle.nap_draw.proofs.work.Work.repeat.Goals as goal
 
 pub returns-then-get-eq0 : goal.returns-then-get-eq0
@@ -9,7 +8,7 @@ returns-then-get-eq0 g c =
     let w = c.args.self.now in
     let none : c.args.count ≡ 0 = grind (arith, nat_tests) in
     let last = ap (λ (o : Option LastChar). with_last o (λ last. Ok (rule_result w (repeated_chars w.state last c.args.count)))) c.in-Some.is in
-    obeys_quietly g.S.Sink _ w w c.args.sink.now (g.met.S.Sink.took_none c.args.sink.now) (last ∙ rw none refl)
+    obeys_quietly (g.met.S.Sink.took_none _) (last ∙ rw none refl)
 
 pub returns-then-count_copies : goal.returns-then-count_copies
 returns-then-count_copies g c = grind (arith, obeys_fully)
@@ -29,8 +28,8 @@ returns-in_err-characters g c =
     let by = repeat_is last c.args.count c.from-2.result (c.from-2.ensures ∙ c.get-3.ensures.value) few w c.in-Some.is (last_is_code w.state _ last c.requires c.in-Some.is) in
     let entries = prefix_some last c.args.count c.from-2.result (c.from-2.ensures ∙ c.get-3.ensures.value) few w.state some in
     let kept = c.count_copies.ensures.kept c.if-count_copies.false in
-    rw (c.in_err-characters.ensures.work, kept.0) (obeys_stop g.S.Sink _ w _ _ _ _ _ c.from_residual.ensures.1 (g.met.S.Sink.took_none _) g.met.S.Sink.wants_more by entries
-    (some_put (sink_model_of g.S.Sink) (Unit {0}) _ _ _ _ _ (rw (kept.0, kept.1) at c.in_err-characters.ensures.put)))
+    rw (c.in_err-characters.ensures.work, kept.0) (obeys_stop _ c.from_residual.ensures.1 (g.met.S.Sink.took_none _) g.met.S.Sink.wants_more by entries
+    (some_put _ (Unit {0}) _ _ _ _ _ (rw (kept.0, kept.1) at c.in_err-characters.ensures.put)))
 
 pub returns : goal.returns
 returns g c = grind (arith, repeat_is, last_is_code, obeys_put)

@@ -1,5 +1,4 @@
-use Rattle.nap_draw.proofs.Common.{RuleResult, ap, sym, walk}
-use Rattle.nap_draw.proofs.Results.{is_ended, not_ended}
+use Rattle.nap_draw.proofs.{Results.is_ended, Results.not_ended, RuleResult, ap, sym, walk}
 use Rattle.nap_draw.proofs.work.Work.restore_saved.Goals as goal
 
 pub returns-then-is_some : goal.returns-then-is_some

@@ -1,5 +1,4 @@
-use Rattle.nap_draw.proofs.Common.{ap, domain_in, map, operand_words, ◌%◌, ◌∙◌}
-use Rattle.nap_draw.proofs.Results.{domain_given}
+use Rattle.nap_draw.proofs.{Results.domain_given, ap, domain_in, map, operand_words, ◌%◌, ◌∙◌}
 use Rattle.nap_draw.proofs.work.Work.set_domain.Goals as goal
 
 pub returns : goal.returns

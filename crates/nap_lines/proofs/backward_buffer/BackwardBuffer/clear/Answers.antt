@@ -1,4 +1,4 @@
-use Rattle.nap_lines.proofs.Common.{IsUtf8-nil, [], arith, drop, drop_all, ◌≡◌}
+use Rattle.nap_lines.proofs.{IsUtf8-nil, [], arith, drop, drop_all, ◌≡◌}
 use Rattle.nap_lines.proofs.backward_buffer.BackwardBuffer.clear.Goals as goal
 
 pub invariant_of-self : goal.invariant_of-self

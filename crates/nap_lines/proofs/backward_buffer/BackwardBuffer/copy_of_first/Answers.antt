@@ -1,5 +1,4 @@
-use Rattle.nap_lines.proofs.Common.{IsWholeChunk, List, MatchOption, ap, arith, drop, length, length-drop, subst, take, ℕ, ◌+◌, ◌-◌, ◌≢◌}
-use Rattle.nap_lines.proofs.KeptLemmas.{first_copied}
+use Rattle.nap_lines.proofs.{IsWholeChunk, List, MatchOption, WritingLemmas.first_copied, ap, arith, drop, length, length-drop, subst, take, ℕ, ◌+◌, ◌-◌, ◌≢◌}
 use Rattle.nap_lines.proofs.backward_buffer.BackwardBuffer.copy_of_first.Goals as goal
 
 pub invariant_of-result : goal.invariant_of-result

@@ -1,4 +1,4 @@
-use Rattle.nap_lines.proofs.Common.{ap, arith, drop, drop-drop, length, length-drop, sym, ◌+◌, ◌-◌, ◌∙◌, ◌≡◌}
+use Rattle.nap_lines.proofs.{ap, arith, drop, drop-drop, length, length-drop, sym, ◌+◌, ◌-◌, ◌∙◌, ◌≡◌}
 use Rattle.nap_lines.proofs.backward_buffer.BackwardBuffer.keep_last.Goals as goal
 
 pub invariant_of-self : goal.invariant_of-self

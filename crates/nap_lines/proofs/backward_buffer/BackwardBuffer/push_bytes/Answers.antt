@@ -1,4 +1,4 @@
-use Rattle.nap_lines.proofs.Common.{IsUtf8-append, arith, common_steps, drop, length, ◌++◌, ◌-◌, ◌≡◌}
+use Rattle.nap_lines.proofs.{IsUtf8-append, arith, common_steps, drop, length, ◌++◌, ◌-◌, ◌≡◌}
 use borrow.Rule.Slice.PartMut.{put_mid}
 use Rattle.nap_lines.proofs.backward_buffer.BackwardBuffer.push_bytes.Goals as goal
 

@@ -1,4 +1,4 @@
-use Rattle.nap_lines.proofs.Common.{IsAscii-cons, IsAscii-nil, IsUtf8-from_ascii, arith, nat_tests}
+use Rattle.nap_lines.proofs.{IsAscii-cons, IsAscii-nil, IsUtf8-from_ascii, arith, nat_tests}
 use Rattle.nap_lines.proofs.backward_buffer.BackwardBuffer.push_code.Goals as goal
 
 pub push_bytes-requires-clause-utf8 : goal.push_bytes-requires-clause-utf8

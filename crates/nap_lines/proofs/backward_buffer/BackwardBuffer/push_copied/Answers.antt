@@ -1,6 +1,5 @@
-use Rattle.nap_lines.proofs.Common.{IsUtf8-append, List, ap, arith, drop, length, length-drop, ℕ, ◌++◌, ◌-◌, ◌∙◌, ◌≡◌}
+use Rattle.nap_lines.proofs.{IsUtf8-append, WritingLemmas.last_put, ap, arith, drop, length, length-drop, ◌++◌, ◌-◌, ◌≡◌}
 use borrow.Rule.Slice.PartMut.{put_mid}
-use Rattle.nap_lines.proofs.KeptLemmas.{last_put}
 use Rattle.nap_lines.proofs.backward_buffer.BackwardBuffer.push_copied.Goals as goal
 
 pub invariant_of-self : goal.invariant_of-self
@@ -11,9 +10,7 @@ invariant_of-self c =
     let size = ap length c.self.view_is in
     let gone = length-drop end bytes in
     let start = end - 16 in
-    let made : drop (end - (16 - from)) (put_mid start (end - start) bytes c.copy_from_slice.new.self) ≡ drop from c.kept.inside.bytes ++ drop end bytes =
-    last_put bytes c.copy_from_slice.new.self end start (end - start) (end - (16 - from)) from (omega arith) (omega arith) (omega arith) (omega arith) (omega arith)
-    ∙ ap (λ (kept : List ℕ). drop from kept ++ drop end bytes) c.copy_from_slice.ensures.after in
+    let made : drop (end - (16 - from)) (put_mid start (end - start) bytes c.copy_from_slice.new.self) ≡ drop from c.kept.inside.bytes ++ drop end bytes = grind (arith, last_put) in
     record { within = omega arith; utf8 = rw made (IsUtf8-append (drop from c.kept.inside.bytes) (drop end bytes) c.kept.invariant.utf8 c.self.invariant.utf8) }
 
 pub returns-clause-text : goal.returns-clause-text

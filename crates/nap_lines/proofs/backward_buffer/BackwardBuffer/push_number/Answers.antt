@@ -1,4 +1,4 @@
-use Rattle.nap_lines.proofs.Common.{IsAscii-decimal, IsUtf8-append, IsUtf8-from_ascii, ap, arith, decimal, drop, length, length-append, length-decimal-le, length-drop}
+use Rattle.nap_lines.proofs.{IsAscii-decimal, IsUtf8-append, IsUtf8-from_ascii, ap, arith, decimal, drop, length, length-append, length-decimal-le, length-drop}
 use Rattle.nap_lines.proofs.backward_buffer.BackwardBuffer.push_number.Goals as goal
 
 pub write_digits-self-inside-requires : goal.write_digits-self-inside-requires

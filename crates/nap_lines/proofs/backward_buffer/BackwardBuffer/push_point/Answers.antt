@@ -1,9 +1,8 @@
-use Rattle.nap_lines.proofs.Common.{arith}
-use Rattle.nap_lines.proofs.KeptLemmas.{point_few, point_utf8}
+use Rattle.nap_lines.proofs.{WritingLemmas.point_few, WritingLemmas.point_utf8, arith}
 use Rattle.nap_lines.proofs.backward_buffer.BackwardBuffer.push_point.Goals as goal
 
 pub returns-clause-utf8 : goal.returns-clause-utf8
-returns-clause-utf8 c = point_utf8 c.args.point.x c.args.point.y (omega (arith, c.x.ensures.value, c.x.ensures.below)) (omega (arith, c.y.ensures.value, c.y.ensures.below))
+returns-clause-utf8 c = point_utf8 c.args.point.x c.args.point.y (omega arith) (omega arith)
 
 pub returns-clause-few : goal.returns-clause-few
-returns-clause-few c = point_few c.args.point.x c.args.point.y (omega (arith, c.x.ensures.value, c.x.ensures.below)) (omega (arith, c.y.ensures.value, c.y.ensures.below))
+returns-clause-few c = point_few c.args.point.x c.args.point.y (omega arith) (omega arith)

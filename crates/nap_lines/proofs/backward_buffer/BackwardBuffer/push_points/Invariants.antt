@@ -1,4 +1,4 @@
-use Rattle.nap_lines.proofs.Common.{drop, length, points_text, ◌*◌, ◌++◌, ◌+◌, ◌-◌, ◌≡◌, ◌≤◌}
+use Rattle.nap_lines.proofs.{drop, length, points_text, ◌*◌, ◌++◌, ◌+◌, ◌-◌, ◌≡◌, ◌≤◌}
 use Rattle.nap_lines.proofs.backward_buffer.BackwardBuffer.push_points.Given as goal
 
 -- the last points so far

@@ -1,4 +1,4 @@
-use Rattle.nap_lines.proofs.Common.{append-nil, append_assoc, arith, walk}
+use Rattle.nap_lines.proofs.{append-nil, append_assoc, arith, walk}
 use Rattle.nap_lines.proofs.line_sink.LineSinkSink.put.Goals as goal
 
 pub returns-clause-took : goal.returns-clause-took

@@ -1,5 +1,4 @@
-use Rattle.nap_lines.proofs.Common.{TakesLinesOf, batch_entries, refl, some_taken, take}
-use Rattle.nap_lines.proofs.PrintLemmas.{lines_shows}
+use Rattle.nap_lines.proofs.{PrintLemmas.lines_shows, TakesLinesOf, batch_entries, refl, some_taken, take}
 use Rattle.nap_lines.proofs.line_sink.LineSinkSink.put_batch.Goals as goal
 
 pub returns : goal.returns

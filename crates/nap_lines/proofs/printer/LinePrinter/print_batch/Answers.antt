@@ -1,5 +1,4 @@
-use Rattle.nap_lines.proofs.Common.{Printing, ap, arith, passes_none, true, ◌∙◌}
-use Rattle.nap_lines.proofs.PrintLemmas.{chunk, sent_on}
+use Rattle.nap_lines.proofs.{PrintLemmas.chunk, PrintLemmas.sent_on, Printing, ap, arith, passes_none, ◌∙◌}
 use Rattle.nap_lines.proofs.printer.LinePrinter.print_batch.Goals as goal
 
 pub loop-taken-init : goal.loop-taken-init
@@ -26,7 +25,7 @@ pub returns-in_default : goal.returns-in_default
 returns-in_default g c =
     let at = c.loop-taken.invariant in
     let sent = c.in_default.ensures.sent in (
-      ((sent.0.0, sent_on _ _ _ _ _ _ _ at.passes sent.0.1), sent.1),
+      ((sent.0.0, sent_on at.passes sent.0.1), sent.1),
       omega (arith, c.loop-taken-test.true, c.len.ensures),
       at.state,
       at.space,

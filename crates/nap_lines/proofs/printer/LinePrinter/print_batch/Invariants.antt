@@ -1,4 +1,4 @@
-use Rattle.nap_lines.proofs.Common.{SendsPart, batch_entries, false, length, lines, sending, sending_by, take, vec_capacity, vec_len, ◌-◌, ◌<◌, ◌≡◌, ◌≤◌}
+use Rattle.nap_lines.proofs.{SendsPart, batch_entries, false, length, lines, sending, sending_by, take, vec_capacity, vec_len, ◌-◌, ◌<◌, ◌≡◌, ◌≤◌}
 use Rattle.nap_lines.proofs.printer.LinePrinter.print_batch.Given as goal
 
 abbrev pub invariant-loop-taken : goal.invariant-loop-taken

@@ -1,5 +1,4 @@
-use Rattle.nap_lines.proofs.Common.{Printing, false, subst, sym, ◌∙◌, ◌≡◌}
-use Rattle.nap_lines.proofs.PrintLemmas.{closes_by, closes_failed}
+use Rattle.nap_lines.proofs.{PrintLemmas.closes_by, PrintLemmas.closes_failed, PrintLemmas.works_still, sym, ◌∙◌}
 use Rattle.nap_lines.proofs.printer.LinePrinter.send_rest.Goals as goal
 
 pub returns-then-failed : goal.returns-then-failed
@@ -7,5 +6,5 @@ returns-then-failed g c = closes_failed g.O.Outlet c.args.self.now (sym c.failed
 
 pub returns : goal.returns
 returns g c =
-    let works = subst (λ (t : Printing _). g.O.Outlet.failed t.outlet ≡ false) (sym c.self.view_is) (sym c.failed.ensures ∙ c.if-failed.false) in
-    rw (← c.self.view_is) (closes_by g.O.Outlet _ _ _ _ c.send_lines.result works c.as_slice-lines.ensures.value c.send_lines.ensures)
+    let works = works_still g.O.Outlet c.self.view_is c.failed.ensures c.if-failed.false in
+    rw (← c.self.view_is) (closes_by g.O.Outlet _ _ _ c.send_lines.result works c.as_slice-lines.ensures.value c.send_lines.ensures)

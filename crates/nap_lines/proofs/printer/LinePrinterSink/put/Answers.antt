@@ -1,5 +1,4 @@
-use Rattle.nap_lines.proofs.Common.{append-nil, append_assoc, arith, walk, ◌∙◌}
-use Rattle.nap_lines.proofs.PrintLemmas.{broke_one, took_one}
+use Rattle.nap_lines.proofs.{PrintLemmas.broke_one, PrintLemmas.took_one, append-nil, append_assoc, arith, walk, ◌∙◌}
 use Rattle.nap_lines.proofs.printer.LinePrinterSink.put.Goals as goal
 
 pub returns-in_default-clause-broke : goal.returns-in_default-clause-broke

@@ -1,5 +1,5 @@
-use Rattle.nap_list.proofs.Common.{arith, inl, inr, sized_lines, sized_points}
-use Rattle.nap_list.proofs.Batches.{points_at, lines_at, same_pen, text_pen}
+use Rattle.nap_list.proofs.{arith, inl, inr, sized_lines, sized_points}
+use Rattle.nap_list.proofs.Batches.{lines_at, points_at, same_pen, text_pen}
 use Rattle.nap_list.proofs.batch.Batch.pen_after.Goals as goal
 
 pub item_at-requires : goal.item_at-requires
@@ -12,9 +12,9 @@ item_at-requires c =
 pub returns-in-Points : goal.returns-in-Points
 returns-in-Points c e es is =
     elim c.in-Points.is [
-      | inl h ↦ same_pen _ _ e _ es (points_at _ _ _ _ _ _ h.1 c.item_at.ensures) is
-      | inr h ↦ same_pen _ _ e _ es (lines_at _ _ _ _ _ _ _ h.2 c.item_at.ensures) is
+      | inl h ↦ same_pen (points_at _ h.1 c.item_at.ensures) is
+      | inr h ↦ same_pen (lines_at _ h.2 c.item_at.ensures) is
     ]
 
 pub returns-in-Text : goal.returns-in-Text
-returns-in-Text c e es is = text_pen _ _ _ _ _ _ e es c.in-Text.is is
+returns-in-Text c e es is = text_pen _ c.in-Text.is is

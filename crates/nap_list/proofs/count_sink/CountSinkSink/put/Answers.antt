@@ -1,4 +1,4 @@
-use Rattle.nap_list.proofs.Common.{arith, walk}
+use Rattle.nap_list.proofs.{arith, walk}
 use Rattle.nap_list.proofs.count_sink.CountSinkSink.put.Goals as goal
 
 pub returns-clause-took : goal.returns-clause-took

@@ -1,4 +1,4 @@
-use Rattle.nap_list.proofs.Common.{CountsEntries, [], arith, batch_entries, count_sink_model, length, length-append, length-take-le, refl, some_taken, take, ◌∷◌, ◌≤◌}
+use Rattle.nap_list.proofs.{CountsEntries, [], arith, batch_entries, count_sink_model, length, length-append, length-take-le, refl, some_taken, take, ◌∷◌, ◌≤◌}
 use Rattle.nap_list.proofs.count_sink.CountSinkSink.put_batch.Goals as goal
 
 pub returns : goal.returns

@@ -1,4 +1,4 @@
-use Rattle.nap_list.proofs.Common.{CountsEntries, Err, [], arith, count_sink_model, counts_none, entry_of_shape, refl, walk, wanting_put, ◌∷◌}
+use Rattle.nap_list.proofs.{CountsEntries, Err, [], arith, count_sink_model, counts_none, entry_of_shape, refl, walk, wanting_put, ◌∷◌}
 use Rattle.nap_list.specs.declared.sink.SinkFault.TheVariants.{Memory}
 use Rattle.nap_list.proofs.count_sink.CountSinkSink.put_shape.Goals as goal
 

@@ -1,4 +1,4 @@
-use Rattle.nap_list.proofs.Common.{Appends, List, arith, drop, length, length-drop, or-false, or-true, rest_of, sending, subst, take, write_fails, write_grows, ℕ, ◌∙◌, ◌≤◌}
+use Rattle.nap_list.proofs.{arith, drop, length, length-drop, or-false, or-true, rest_of, sending, take, write_fails, write_grows, ◌∙◌, ◌≤◌}
 use Rattle.nap_list.proofs.device.sending.send_all.Goals as goal
 
 pub loop-taken-preserved : goal.loop-taken-preserved
@@ -9,12 +9,12 @@ loop-taken-preserved g c =
     let count = c.in-Ok.count in
     let i = at.taken in
     let bytes = c.args.bytes.now in
-    let few : count ≤ length (drop i bytes) = subst (λ (xs : List ℕ). count ≤ length xs) (rest_of i bytes) c.in-Ok.ensures.bound in
+    let few : count ≤ length (drop i bytes) = rw (rest_of i bytes) at c.in-Ok.ensures.bound in
     record {
       within = omega (arith, length-drop i bytes, few);
       sent = record {
         grows = write_grows O (sending O c.args.outlet.now c.args.written.now) at.outlet c.write.new.self at.written c.saturating_add.result i count bytes so_far.grows few
-            (subst (λ (xs : List ℕ). Appends (O.taken at.outlet) (O.taken c.write.new.self) (take count xs)) (rest_of i bytes) c.in-Ok.ensures.bytes)
+            (rw (rest_of i bytes) at c.in-Ok.ensures.bytes)
             c.in-Ok.ensures.failed c.in-Ok.ensures.write_failed c.in-Ok.ensures.flushes (omega arith) c.saturating_add.ensures;
         failed = c.in-Ok.ensures.failed ∙ or-false (O.failed at.outlet) ∙ so_far.failed;
       };

@@ -1,4 +1,4 @@
-use Rattle.nap_list.proofs.Common.{SendsAll, length, sending, take, ◌-◌, ◌≡◌, ◌≤◌}
+use Rattle.nap_list.proofs.{SendsAll, length, sending, take, ◌-◌, ◌≡◌, ◌≤◌}
 use Rattle.nap_list.proofs.device.sending.send_all.Given as goal
 
 abbrev pub invariant-loop-taken : goal.invariant-loop-taken

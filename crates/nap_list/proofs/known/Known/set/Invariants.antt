@@ -1,5 +1,4 @@
-use Rattle.nap_list.proofs.Common.{not, ◌==◌}
-use Rattle.nap_list.proofs.KnownLemmas.{ShiftsInPlace}
+use Rattle.nap_list.proofs.{KnownLemmas.ShiftsInPlace, not, ◌==◌}
 use Rattle.nap_list.proofs.known.Known.set.Given as goal
 
 -- the first i colours with another address, after the one that is set

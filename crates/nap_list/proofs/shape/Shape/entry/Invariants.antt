@@ -1,4 +1,4 @@
-use Rattle.nap_list.proofs.Common.{take, ◌∷◌, ◌≡◌}
+use Rattle.nap_list.proofs.{take, ◌∷◌, ◌≡◌}
 use Rattle.nap_list.proofs.shape.Shape.entry.Given as goal
 
 abbrev pub invariant-loop-point : goal.invariant-loop-point

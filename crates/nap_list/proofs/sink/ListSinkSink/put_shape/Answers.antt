@@ -1,4 +1,4 @@
-use Rattle.nap_list.proofs.Common.{List, PutSome, SinkModel, [], append-nil, entry_of_shape, false, one_put, refl, sink_model, start, subst, sym, walk, wanting_put, ◌++◌, ◌∷◌, ◌≡◌}
+use Rattle.nap_list.proofs.{List, SinkModel, append-nil, entry_of_shape, false, one_put, refl, sink_model, start, sym, walk, wanting_put, ◌++◌, ◌≡◌}
 use Rattle.nap_list.specs.declared.entry.Entry.{Entry}
 use Rattle.nap_list.proofs.sink.ListSinkSink.put_shape.Goals as goal
 
@@ -15,5 +15,5 @@ returns c =
     let s = c.args.self.now in
     let t = c.put.new.self in
     let r = c.put.result in
-    subst (λ (x : Entry). PutSome listing (x ∷ []) s t r) c.in_ok-entry.ensures
+    rw (← c.in_ok-entry.ensures)
     (one_put listing s t c.in_ok-entry.entry r (sym (append-nil s)) put.took put.after put.memory put.wants put.refuses put.write put.only_write put.broke put.still)

@@ -1,4 +1,4 @@
-use Rattle.nap_list.proofs.Common.{NotTaken, arith, batch_entries, next_stops, one_fits, one_goes, put_begins, sink_model_of}
+use Rattle.nap_list.proofs.{NotTaken, arith, batch_entries, next_stops, one_fits, one_goes, put_begins, sink_model_of}
 use Rattle.nap_list.proofs.sink.Sink.put_batch.Goals as goal
 
 pub loop-taken-init : goal.loop-taken-init

@@ -1,4 +1,4 @@
-use Rattle.nap_list.proofs.Common.{Putting, batch_entries, drop, sink_model_of}
+use Rattle.nap_list.proofs.{Putting, batch_entries, drop, sink_model_of}
 use Rattle.nap_list.proofs.sink.Sink.put_batch.Given as goal
 
 abbrev pub invariant-loop-taken : goal.invariant-loop-taken

@@ -1,29 +1,22 @@
 -- `left_by` makes a struct that has no field at run time, and picks the state. Assumes `Logic`.
-use Rattle.std.proofs.Common.{List, [], ◌∷◌, refl}
-use Rattle.std.proofs.raw_atomic.Walks.{proved}
+use Rattle.std.proofs.{Common.List, Common.[], Common.◌∷◌, Common.refl, raw_atomic.Walks.proved}
 use contract.Running.{tables}
-use denote.Builtin.{RefOf}
-use denote.Exit.{yes}
+use denote.{Builtin.RefOf, Exit.yes, Steps.nothing, Triple.Entry.alive}
 use denote.RattleType.{RattleType, Valss, owns}
 use denote.Ref.{shr_vals, shr_Tells}
 use denote.Signature.{types_at, plain, named_lft}
-use denote.Steps.{nothing}
 use denote.Struct.Struct.{Struct, within}
-use denote.Triple.Entry.{alive}
 use denote.Triple.Walked.{Stays, says, walk_of, ends_at, stay_dropped, Goes-dropped}
 use mir.Syntax.{named}
 use mir.Val.{Val, vptr, vstruct, vnil}
 use seplogic.Ra.Ura.{Ura}
 use types.ByLocal.{alloc_all, pass_all, free_all, look_at, sets}
 use types.Kit.{Goal, Step, step, Item, fpack, feq_i, ‵, raw, ◌⊛◌, ◌$◌, ◌∵◌, !, qed, move, keep, split, fjoin, suffices, done}
-use types.Logic.{Logic}
-use types.Part.{agg}
-use types.Run.{enter, returns, no_more}
-use Rattle.nap_list.specs.Taken.{state_left}
+use types.{Logic.Logic, Part.agg, Run.enter, Run.returns, Run.no_more}
+use Rattle.nap_list.specs.{Taken.state_left, contracts.sink_state.GhostState.left_by.Key.name as #self}
 use Rattle.nap_list.specs.contracts.sink_state.Taken as Taken
 use Rattle.nap_list.specs.contracts.sink_state.GhostState as GhostState
 use Rattle.nap_list.specs.contracts.sink_state.GhostState.left_by.{ended, clauses}
-use Rattle.nap_list.specs.contracts.sink_state.GhostState.left_by.Key.{name as #self}
 use Rattle.nap_list.proofs.sink_state.GhostState.left_by.Statement.{statement}
 use Rattle.nap_list.proofs.sink_state.GhostState.left_by.Code as code
 

@@ -1,4 +1,4 @@
-use Rattle.nap_make.proofs.RowLemmas.{no_times}
+use Rattle.nap_make.proofs.FieldLemmas.{no_times}
 use Rattle.nap_make.proofs.field.Sort.read.Goals as goal
 
 pub returns-in-None-three_words : goal.returns-in-None-three_words

@@ -1,5 +1,4 @@
-use Rattle.nap_make.proofs.Common.{All, All-push, IsCode, List, code_lines, subst, sym, ℕ, ◌++◌, ◌≡◌}
-use Rattle.nap_make.proofs.CharLemmas.{codes_more}
+use Rattle.nap_make.proofs.{All, All-push, CharLemmas.codes_more, IsCode, code_lines, subst, sym, ◌++◌, ◌≡◌}
 use Rattle.nap_make.proofs.lines.maker.read_codes.Goals as goal
 
 pub loop-rest-preserved : goal.loop-rest-preserved
@@ -8,5 +7,5 @@ loop-rest-preserved c =
     let more = c.in-Some.more.now in
     record {
       codes = subst (All IsCode) (sym c.push.ensures.items) (All-push IsCode _ _ inv.codes c.in-Some.ensures.0);
-      lines = subst (λ (codes : List ℕ). c.args.bytes.now ≡ code_lines c.args.line.now codes ++ more) (sym c.push.ensures.items) (codes_more c.args.line.now c.args.bytes.now _ _ more _ inv.lines c.in-Some.ensures.1);
+      lines = subst (λ codes. c.args.bytes.now ≡ code_lines c.args.line.now codes ++ more) (sym c.push.ensures.items) (codes_more c.args.line.now c.args.bytes.now _ _ more _ inv.lines c.in-Some.ensures.1);
     }

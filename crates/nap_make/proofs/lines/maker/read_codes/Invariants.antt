@@ -1,4 +1,4 @@
-use Rattle.nap_make.proofs.Common.{All, IsCode, code_lines, length, ◌++◌, ◌-◌, ◌≡◌}
+use Rattle.nap_make.proofs.{All, IsCode, code_lines, length, ◌++◌, ◌-◌, ◌≡◌}
 use Rattle.nap_make.proofs.lines.maker.read_codes.Given as goal
 
 abbrev pub invariant-loop-rest : goal.invariant-loop-rest

@@ -1,6 +1,4 @@
-use Rattle.nap_values.proofs.Common.{Components, ap, b_in, value_of, words_in, ◌∙◌}
-use Rattle.nap_values.proofs.SpellingLemmas.{b_digits-below}
-use Rattle.nap_values.proofs.PackedColourLemmas.{b_digits_are}
+use Rattle.nap_values.proofs.{ColourLemmas.b_digits_are, Components, WordLemmas.b_digits-below, ap, b_in, value_of, words_in, ◌∙◌}
 use Rattle.nap_values.proofs.colours.Grb.b.Goals as goal
 
 pub collected_digits-requires : goal.collected_digits-requires

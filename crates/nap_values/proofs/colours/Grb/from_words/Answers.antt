@@ -1,5 +1,4 @@
-use Rattle.nap_values.proofs.Common.{ap, b_in, colour_of, g_in, r_in, words_in}
-use Rattle.nap_values.proofs.PackedColourLemmas.{packed_colour-in}
+use Rattle.nap_values.proofs.{ColourLemmas.packed_colour-in, ap, b_in, colour_of, g_in, r_in, words_in}
 use Rattle.nap_values.proofs.colours.Grb.from_words.Goals as goal
 
 pub invariant_of-result : goal.invariant_of-result

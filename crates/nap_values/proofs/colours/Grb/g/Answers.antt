@@ -1,6 +1,4 @@
-use Rattle.nap_values.proofs.Common.{Components, ap, g_in, value_of, words_in, ◌∙◌}
-use Rattle.nap_values.proofs.SpellingLemmas.{g_digits-below}
-use Rattle.nap_values.proofs.PackedColourLemmas.{g_digits_are}
+use Rattle.nap_values.proofs.{ColourLemmas.g_digits_are, Components, WordLemmas.g_digits-below, ap, g_in, value_of, words_in, ◌∙◌}
 use Rattle.nap_values.proofs.colours.Grb.g.Goals as goal
 
 pub collected_digits-requires : goal.collected_digits-requires

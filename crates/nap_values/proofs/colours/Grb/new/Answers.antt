@@ -1,5 +1,5 @@
-use Rattle.nap_values.proofs.Common.{HoldsWords, packed_colour, refl, rules}
-use Rattle.nap_values.proofs.PackedColourLemmas.{packed_colour-in, packed_colour-parts, packed_colour-words, parts_in-packed_colour}
+use Rattle.nap_values.proofs.{HoldsWords, packed_colour, rules}
+use Rattle.nap_values.proofs.ColourLemmas.{packed_colour-in, packed_colour-parts, packed_colour-words, parts_in-packed_colour}
 use Rattle.nap_values.proofs.colours.Grb.new.Goals as goal
 
 pub invariant_of-result : goal.invariant_of-result
@@ -11,4 +11,4 @@ invariant_of-result c =
 pub returns : goal.returns
 returns c =
     let parts = parts_in-packed_colour c.args.g c.args.r c.args.b (search rules) (search rules) (search rules) in
-    rw (c.spread_digits.ensures.value, c.spread_digits-2.ensures.value, c.spread_digits-3.ensures.value, packed_colour-parts c.args.g c.args.r c.args.b (search rules) (search rules) (search rules), parts.0, parts.1, parts.2) refl
+    rw (c.spread_digits.ensures.value, c.spread_digits-2.ensures.value, c.spread_digits-3.ensures.value, packed_colour-parts c.args.g c.args.r c.args.b (search rules) (search rules) (search rules), parts.0, parts.1, parts.2)

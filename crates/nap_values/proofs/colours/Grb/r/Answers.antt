@@ -1,6 +1,4 @@
-use Rattle.nap_values.proofs.Common.{Components, ap, r_in, value_of, words_in, ◌∙◌}
-use Rattle.nap_values.proofs.SpellingLemmas.{r_digits-below}
-use Rattle.nap_values.proofs.PackedColourLemmas.{r_digits_are}
+use Rattle.nap_values.proofs.{ColourLemmas.r_digits_are, Components, WordLemmas.r_digits-below, ap, r_in, value_of, words_in, ◌∙◌}
 use Rattle.nap_values.proofs.colours.Grb.r.Goals as goal
 
 pub collected_digits-requires : goal.collected_digits-requires

@@ -1,6 +1,4 @@
-use Rattle.nap_values.proofs.Common.{ap, bit_and, ◌%◌, ◌*◌, ◌∙◌}
-use Rattle.nap_values.proofs.CoarseLemmas.{block_kept}
-use Rattle.nap_values.proofs.MovingPointLemmas.{x_words}
+use Rattle.nap_values.proofs.{CoarseLemmas.block_kept, MotionLemmas.x_words, ap, bit_and, ◌%◌, ◌*◌, ◌∙◌}
 use Rattle.nap_values.proofs.packed.PackedWords.coarse.Goals as goal
 
 pub invariant_of-result : goal.invariant_of-result
@@ -10,5 +8,5 @@ invariant_of-result c =
 
 pub returns : goal.returns
 returns c =
-    let (is, fits) = block_kept c.args.block.now c.told-block c.fits-block in
-    ap (λ n. bit_and (n * 34359738369 % 18446744073709551616) 0x3838_3800_3838_3800) (c.from-bytes.ensures ∙ c.from_be_bytes.ensures) ∙ is
+    let (is, fits) = block_kept _ c.told-block c.fits-block in
+    ap (λ n. bit_and (n * 34359738369 % 18446744073709551616) _) (c.from-bytes.ensures ∙ c.from_be_bytes.ensures) ∙ is

@@ -1,7 +1,4 @@
-use Rattle.nap_values.proofs.Common.{arith}
-use Rattle.nap_values.proofs.CoarseLemmas.{part_kept}
-use Rattle.nap_values.proofs.MovingPointLemmas.{x_words}
-use Rattle.nap_values.proofs.PackedLemmas.{x_in-below}
+use Rattle.nap_values.proofs.{CoarseLemmas.part_kept, MotionLemmas.x_words, WordLemmas.x_in-below, arith}
 use Rattle.nap_values.proofs.packed.PackedWords.coarse_part.Goals as goal
 
 pub invariant_of-result : goal.invariant_of-result

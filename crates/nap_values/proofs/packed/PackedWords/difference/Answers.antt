@@ -1,5 +1,4 @@
-use Rattle.nap_values.proofs.Common.{HoldsWords, subst, sym}
-use Rattle.nap_values.proofs.MotionLemmas.{taken-parts, kept-words}
+use Rattle.nap_values.proofs.{HoldsWords, MotionLemmas.kept-words, MotionLemmas.taken-parts, subst, sym}
 use Rattle.nap_values.proofs.packed.PackedWords.difference.Goals as goal
 
 pub invariant_of-result : goal.invariant_of-result

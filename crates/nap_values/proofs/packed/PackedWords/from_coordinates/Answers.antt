@@ -1,5 +1,4 @@
-use Rattle.nap_values.proofs.Common.{sym}
-use Rattle.nap_values.proofs.PackedLemmas.{packed_coordinates-parts, packed_coordinates-words}
+use Rattle.nap_values.proofs.{WordLemmas.packed_coordinates-parts, WordLemmas.packed_coordinates-words, sym}
 use Rattle.nap_values.proofs.packed.PackedWords.from_coordinates.Goals as goal
 
 pub invariant_of-result : goal.invariant_of-result

@@ -1,5 +1,4 @@
-use Rattle.nap_values.proofs.Common.{rules}
-use Rattle.nap_values.proofs.SignLemmas.{signs_clear, clear_x, clear_y}
+use Rattle.nap_values.proofs.{WordLemmas.clear_x, WordLemmas.clear_y, WordLemmas.signs_clear, rules}
 use Rattle.nap_values.proofs.packed.PackedWords.is_inside.Goals as goal
 
 pub returns : goal.returns

@@ -1,5 +1,4 @@
-use Rattle.nap_values.proofs.Common.{HoldsWords, subst, sym}
-use Rattle.nap_values.proofs.MotionLemmas.{added-parts, kept-words}
+use Rattle.nap_values.proofs.{HoldsWords, MotionLemmas.added-parts, MotionLemmas.kept-words, subst, sym}
 use Rattle.nap_values.proofs.packed.PackedWords.sum.Goals as goal
 
 pub invariant_of-result : goal.invariant_of-result

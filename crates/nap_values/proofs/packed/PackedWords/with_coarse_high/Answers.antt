@@ -1,6 +1,4 @@
-use Rattle.nap_values.proofs.Common.{HoldsWords, arith, subst, sym}
-use Rattle.nap_values.proofs.CoarseLemmas.{joined_kept}
-use Rattle.nap_values.proofs.PackedLemmas.{packed_coordinates-words, x_in-below}
+use Rattle.nap_values.proofs.{CoarseLemmas.joined_kept, HoldsWords, WordLemmas.packed_coordinates-words, WordLemmas.x_in-below, arith, subst, sym}
 use Rattle.nap_values.proofs.packed.PackedWords.with_coarse_high.Goals as goal
 
 pub invariant_of-result : goal.invariant_of-result

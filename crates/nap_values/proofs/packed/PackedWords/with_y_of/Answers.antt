@@ -1,4 +1,4 @@
-use Rattle.nap_values.proofs.PackedLemmas.{crossed-parts, crossed-words}
+use Rattle.nap_values.proofs.WordLemmas.{crossed-parts, crossed-words}
 use Rattle.nap_values.proofs.packed.PackedWords.with_y_of.Goals as goal
 
 pub invariant_of-result : goal.invariant_of-result

@@ -1,6 +1,4 @@
-use Rattle.nap_values.proofs.Common.{ap, value_of, words_in, x_in, ◌∙◌}
-use Rattle.nap_values.proofs.SpellingLemmas.{x_digits-below}
-use Rattle.nap_values.proofs.PackedLemmas.{x_digits_are, x_in-below}
+use Rattle.nap_values.proofs.{WordLemmas.x_digits-below, WordLemmas.x_digits_are, WordLemmas.x_in-below, ap, value_of, words_in, x_in, ◌∙◌}
 use Rattle.nap_values.proofs.packed.PackedWords.x_bits.Goals as goal
 
 pub collected_digits-requires : goal.collected_digits-requires

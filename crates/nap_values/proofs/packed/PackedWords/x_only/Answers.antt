@@ -1,4 +1,4 @@
-use Rattle.nap_values.proofs.MovingPointLemmas.{x_kept, x_kept-words}
+use Rattle.nap_values.proofs.MotionLemmas.{x_kept, x_kept-words}
 use Rattle.nap_values.proofs.packed.PackedWords.x_only.Goals as goal
 
 pub invariant_of-result : goal.invariant_of-result

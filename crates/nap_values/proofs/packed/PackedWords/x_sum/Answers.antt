@@ -1,5 +1,4 @@
-use Rattle.nap_values.proofs.Common.{arith}
-use Rattle.nap_values.proofs.MovingPointLemmas.{x_advanced, x_words}
+use Rattle.nap_values.proofs.{MotionLemmas.x_advanced, MotionLemmas.x_words, arith}
 use Rattle.nap_values.proofs.packed.PackedWords.x_sum.Goals as goal
 
 pub invariant_of-result : goal.invariant_of-result

@@ -1,6 +1,4 @@
-use Rattle.nap_values.proofs.Common.{ap, value_of, words_in, y_in, ◌∙◌}
-use Rattle.nap_values.proofs.SpellingLemmas.{y_digits-below}
-use Rattle.nap_values.proofs.PackedLemmas.{y_digits_are, y_in-below}
+use Rattle.nap_values.proofs.{WordLemmas.y_digits-below, WordLemmas.y_digits_are, WordLemmas.y_in-below, ap, value_of, words_in, y_in, ◌∙◌}
 use Rattle.nap_values.proofs.packed.PackedWords.y_bits.Goals as goal
 
 pub collected_digits-requires : goal.collected_digits-requires

@@ -1,4 +1,4 @@
-use Rattle.nap_values.proofs.MovingPointLemmas.{y_kept, y_kept-words}
+use Rattle.nap_values.proofs.MotionLemmas.{y_kept, y_kept-words}
 use Rattle.nap_values.proofs.packed.PackedWords.y_only.Goals as goal
 
 pub invariant_of-result : goal.invariant_of-result

@@ -1,5 +1,4 @@
-use Rattle.nap_values.proofs.Common.{arith}
-use Rattle.nap_values.proofs.MovingPointLemmas.{y_advanced, y_words}
+use Rattle.nap_values.proofs.{MotionLemmas.y_advanced, MotionLemmas.y_words, arith}
 use Rattle.nap_values.proofs.packed.PackedWords.y_sum.Goals as goal
 
 pub invariant_of-result : goal.invariant_of-result

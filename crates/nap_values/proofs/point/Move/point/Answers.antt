@@ -1,4 +1,4 @@
-use Rattle.nap_values.proofs.Common.{ap₂, multi_of, point_at, point_with, x_in, y_in, ◌∙◌}
+use Rattle.nap_values.proofs.{ap₂, multi_of, point_at, point_with, x_in, y_in, ◌∙◌}
 use Rattle.nap_values.proofs.point.Move.point.Goals as goal
 
 pub returns : goal.returns

@@ -1,10 +1,9 @@
-use Rattle.nap_values.proofs.Common.{ap, ap₂, bits_of, rules, signed_of, x_in, y_in, ◌∙◌, ◌≡◌}
-use Rattle.nap_values.proofs.CoordinateLemmas.{signed_of-bits_of}
-use Rattle.nap_values.proofs.PackedLemmas.{x_in-packed_coordinates, y_in-packed_coordinates, move_words}
+use Rattle.nap_values.proofs.{ap, ap₂, bits_of, rules, signed_of, x_in, y_in, ◌∙◌, ◌≡◌}
+use Rattle.nap_values.proofs.WordLemmas.{move_words, signed_of-bits_of, x_in-packed_coordinates, y_in-packed_coordinates}
 use Rattle.nap_values.proofs.point.Move.try_new.Goals as goal
 
 pub invariant_of-result : goal.invariant_of-result
-invariant_of-result c = (c.get.ensures.words, move_words c.get.result c.get.ensures.words)
+invariant_of-result c = (c.get.ensures.words, move_words _ c.get.ensures.words)
 
 pub returns-then-contains-2-clause-value : goal.returns-then-contains-2-clause-value
 returns-then-contains-2-clause-value c =

@@ -1,5 +1,4 @@
-use Rattle.nap_values.proofs.Common.{digits_of, refl, value_of, words_in, x_in, y_in}
-use Rattle.nap_values.proofs.PackedLemmas.{zero_words, move_words}
+use Rattle.nap_values.proofs.{WordLemmas.move_words, WordLemmas.zero_words, digits_of, refl, value_of, words_in, x_in, y_in}
 use Rattle.nap_values.proofs.point.Move.zero.Goals as goal
 
 pub invariant_of-result : goal.invariant_of-result

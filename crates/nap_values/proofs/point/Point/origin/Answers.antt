@@ -1,5 +1,4 @@
-use Rattle.nap_values.proofs.Common.{arith, digits_of, refl, value_of, words_in, x_in, y_in}
-use Rattle.nap_values.proofs.PackedLemmas.{zero_words, packed_coordinates-in}
+use Rattle.nap_values.proofs.{WordLemmas.packed_coordinates-in, WordLemmas.zero_words, arith, digits_of, refl, value_of, words_in, x_in, y_in}
 use Rattle.nap_values.proofs.point.Point.origin.Goals as goal
 
 pub invariant_of-result : goal.invariant_of-result

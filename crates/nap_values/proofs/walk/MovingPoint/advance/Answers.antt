@@ -1,5 +1,5 @@
-use Rattle.nap_values.proofs.Common.{ap₂, arith, displaced_point, sym, ◌∙◌}
-use Rattle.nap_values.proofs.MovingPointLemmas.{x_again, y_again, result_at, result_is}
+use Rattle.nap_values.proofs.{ap₂, arith, displaced_point, sym, ◌∙◌}
+use Rattle.nap_values.proofs.MotionLemmas.{result_at, result_is, x_again, y_again}
 use Rattle.nap_values.proofs.walk.MovingPoint.advance.Goals as goal
 
 pub returns-in_err-point-clause-point : goal.returns-in_err-point-clause-point

@@ -1,5 +1,4 @@
-use Rattle.nap_command.proofs.Common.{Entry, List, ap, append-nil, arith, drop, length, length-drop, lines_on, refl, sym, take, take_all, ℕ, ◌++◌, ◌+◌, ◌-◌, ◌∙◌, ◌≡◌, ◌≤◌}
-use Rattle.nap_command.proofs.LineLemmas.{all_known, none_left, one_less}
+use Rattle.nap_command.proofs.{LineLemmas.all_known, LineLemmas.none_left, LineLemmas.one_less, ap, append-nil, arith, drop, length, length-drop, lines_on, refl, sym, take, take_all, ◌++◌, ◌+◌, ◌-◌, ◌∙◌, ◌≡◌, ◌≤◌}
 use Rattle.nap_command.proofs.batch.written.Written.write_new.Goals as goal
 
 pub loop-self-init : goal.loop-self-init
@@ -24,7 +23,7 @@ loop-self-preserved c =
           let o = one_less known size all at step rest part cut refl less c.first_line_len-size.ensures.first left new in (
             o.further,
             o.new,
-            ap (λ (bs : List ℕ). bs ++ lines_on (at + step) step o.further) (c.in_ok-extend_from_slice.ensures.items ∙ ap (λ (bs : List ℕ). bs ++ part) c.in_ok-write_place.ensures)
+            ap (◌++ lines_on (at + step) step o.further) (c.in_ok-extend_from_slice.ensures.items ∙ ap (◌++ part) c.in_ok-write_place.ensures)
                 ∙ (o.text c.loop-self.self.text.items ∙ text),
             omega (arith, count, o.count),
           );
@@ -38,9 +37,9 @@ returns c = λ es k.
     let old = c.loop-self.self.text.items in
     let (left, new, text, count) = c.loop-self.invariant.goes es k in
     let most : length all ≤ known = omega (arith, c.loop-self-test.false) in
-    let none = none_left known all left new most in
+    let none = none_left left new most in
     record {
-      text = sym (append-nil old) ∙ (ap (λ (es : List Entry). old ++ lines_on at c.args.step es) (sym none) ∙ text);
+      text = sym (append-nil old) ∙ (ap (λ es. old ++ lines_on at c.args.step es) (sym none) ∙ text);
       count = omega (arith, count, ap length none);
-      known = all_known known all left new most;
+      known = all_known new most;
     }

@@ -1,5 +1,4 @@
-use Rattle.nap_command.proofs.Common.{length, ◌+◌, ◌-◌, ◌≤◌}
-use Rattle.nap_command.proofs.LineLemmas.{Goes}
+use Rattle.nap_command.proofs.{LineLemmas.Goes, length, ◌+◌, ◌-◌, ◌≤◌}
 use Rattle.nap_command.proofs.batch.written.Written.write_new.Given as goal
 
 abbrev pub invariant-loop-self : goal.invariant-loop-self

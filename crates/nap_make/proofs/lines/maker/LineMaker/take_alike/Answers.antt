@@ -1,6 +1,4 @@
-use Rattle.nap_make.proofs.Common.{After, All, IsCode, List, ap, arith, code_lines, err_from_is_err_and, length, length-append, subst, sym, text_entries, ℕ, ◌++◌, ◌∙◌}
-use Rattle.nap_make.proofs.CharLemmas.{text_fits, text_lines, text_proper}
-use Rattle.nap_make.proofs.NextEntryLemmas.{some_stop}
+use Rattle.nap_make.proofs.{After, All, CharLemmas.text_fits, CharLemmas.text_lines, CharLemmas.text_proper, FeedLemmas.some_stop, IsCode, ap, arith, code_lines, err_from_is_err_and, length, length-append, subst, sym, text_entries, ◌++◌, ◌∙◌}
 use Rattle.nap_make.proofs.lines.maker.LineMaker.take_alike.Goals as goal
 
 pub returns-in_err-put_codes-clause-takes : goal.returns-in_err-put_codes-clause-takes
@@ -13,9 +11,9 @@ returns-in_err-put_codes-clause-takes g c s es holds =
     let rest = c.read_codes-rest.result.now in
     let f = c.in_err-put_codes.field-0.0 in
     let e = err_from_is_err_and c.from_residual.result c.from_residual.ensures.1 in
-    rw (e.1, e.2) (some_stop g.S.Sink s es c.args.self.now holds (text_entries state.drawing After l.set codes) c.args.more.now rest c.put_codes.new.self f
-    (text_proper l state c.requires.follows codes all) (text_fits l state c.requires.follows codes all)
-    (c.read_codes-rest.ensures.lines ∙ ap (λ (codes : List ℕ). code_lines l codes ++ rest) (sym same) ∙ ap (λ (xs : List ℕ). xs ++ rest) (sym (text_lines l state c.requires.follows codes all)))
+    rw (e.1, e.2) (some_stop holds (text_entries state.drawing After l.set codes) rest c.put_codes.new.self f
+    (text_proper c.requires.follows codes all) (text_fits c.requires.follows codes all)
+    (c.read_codes-rest.ensures.lines ∙ ap (λ codes. code_lines l codes ++ rest) (sym same) ∙ ap (◌++ rest) (sym (text_lines c.requires.follows codes all)))
     (c.in_err-put_codes.ensures.puts s es holds))
 
 pub returns-clause-leaves : goal.returns-clause-leaves
@@ -34,6 +32,6 @@ returns-clause-takes g c s es holds =
     let rest = c.read_codes-rest.result.now in
     record {
       more = text_entries state.drawing After l.set codes;
-      parts = c.read_codes-rest.ensures.lines ∙ ap (λ (codes : List ℕ). code_lines l codes ++ rest) (sym same) ∙ ap (λ (xs : List ℕ). xs ++ rest) (sym (text_lines l state c.requires.follows codes all));
+      parts = c.read_codes-rest.ensures.lines ∙ ap (λ codes. code_lines l codes ++ rest) (sym same) ∙ ap (◌++ rest) (sym (text_lines c.requires.follows codes all));
       holds = c.in_ok-put_codes.ensures.puts s es holds;
     }

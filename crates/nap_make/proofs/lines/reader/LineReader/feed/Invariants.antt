@@ -1,5 +1,4 @@
-use Rattle.nap_make.proofs.Common.{HasReadLines, IsReady, List, length, ℕ, ◌++◌}
-use Rattle.nap_make.proofs.FeedLemmas.{HasReadTo}
+use Rattle.nap_make.proofs.{FeedLemmas.HasReadTo, HasReadLines, IsReady, List, length, ℕ, ◌++◌}
 use Rattle.nap_make.proofs.lines.reader.LineReader.feed.Given as goal
 
 abbrev pub invariant-loop-next : goal.invariant-loop-next

@@ -1,5 +1,4 @@
-use Rattle.nap_make.proofs.Common.{[], sym}
-use Rattle.nap_make.proofs.NextEntryLemmas.{put_none}
+use Rattle.nap_make.proofs.{FeedLemmas.put_none, [], sym}
 use Rattle.nap_make.proofs.lines.reader.LineReader.new.Goals as goal
 
 pub returns-clause-has_read : goal.returns-clause-has_read
