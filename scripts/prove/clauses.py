@@ -1,8 +1,8 @@
 """The clauses and definitions of the crates, and a sum over them.
 
 What a wrong body is refused by are the clauses of src/ and the definitions of specs/, of its crate and of all crates
-below. So all of a source counts but the bodies of its functions, comments and the layout, and of imports how they are
-grouped. Tests don't count.
+below. So all of a source counts but the bodies of its functions, comments, the layout and how imports are grouped.
+Tests don't count.
 """
 import hashlib
 import re
@@ -144,13 +144,13 @@ def is_tested(path: Path) -> bool:
 
 
 def imports_in(lines: List[str]) -> List[str]:
-    """What lines of the logic import, a name a line, in an order that doesn't hang on how the imports are grouped."""
+    """What lines of the logic import, one name to a line, in an order that doesn't depend on how they are grouped."""
     groups = filter(None, map(IMPORT.fullmatch, lines))
     return sorted(found["head"] + name.strip() for found in groups for name in found["names"].split(","))
 
 
 def _said_by(crate: Path) -> Iterator[str]:
-    """All that a crate's clauses and definitions say, in an order that doesn't hang on the names of sources."""
+    """All that a crate's clauses and definitions say, in an order that doesn't depend on the names of sources."""
     sources = [path for path in (crate / "src").rglob("*.rt") if not is_tested(path.relative_to(crate))]
     yield from sorted(Source.of(path.read_text("utf-8")).without_bodies() for path in sources)
     for path in sorted((crate / "specs").rglob("*.antt")):
