@@ -25,13 +25,13 @@ pub use Rattle.nap_make.specs.Rows.{BeginsNoPoint, EndsPoints, Fields, FitsSort,
 pub use Rattle.nap_reader.proofs.PublicLaws.{accepted_is_legal, read_values_are_in_range}
 pub use Rattle.nap_values.specs.{Colours.Components, Colours.HasSixteenBitParts, Laws.IsWord}
 pub use Rattle.nap_values.specs.Coordinates.{Coordinates, Displacement, IsInRange, IsInSquare}
-pub use Rattle.std.proofs.Common.{All, Bool, Err, IfErr, IsSome, List, MatchResult, None, Ok, OnOk, Option, Result, Some, [], ap, append-nil, append_assoc, ap₂, arith, codes, cond, drop, eqb-true, false, get_or, inl, inr, is_some, length, length-append, map, nat_lt, negsuc, pos, refl, rules, subst, suc, sym, take, take-append-drop, true, zero, ℕ, ℤ, ◌%◌, ◌*◌, ◌++◌, ◌+◌, ◌-◌, ◌/◌, ◌<◌, ◌^◌, ◌||◌, ◌∙◌, ◌∷◌, ◌≡◌, ◌≢◌, ◌≤◌, ◌⊎◌}
+pub use Rattle.std.proofs.Common.{All, Bool, Err, IfErr, IsSome, List, MatchResult, None, Ok, OnOk, Option, Result, Some, [], ap, append-nil, append_assoc, ap₂, arith, codes, cond, drop, eqb-true, false, get_or, inl, inr, is_ok, is_some, length, length-append, map, nat_lt, negsuc, pos, refl, rules, subst, suc, sym, take, take-append-drop, true, zero, ℕ, ℤ, ◌%◌, ◌*◌, ◌++◌, ◌+◌, ◌-◌, ◌/◌, ◌<◌, ◌^◌, ◌||◌, ◌∙◌, ◌∷◌, ◌≡◌, ◌≢◌, ◌≤◌, ◌⊎◌}
 pub use Rattle.std.proofs.KnownBytes.{Appends-kept, Consumes-kept, Consumes-nil, Consumes-trans}
-pub use Rattle.std.proofs.{Math.Bool.or-false, Math.Bool.or-true, Math.Nat.pow-le-pow_right, Math.Seq.drop-cons, Math.Seq.take-append_seam, lemmas.Bool.Decides.Decides-eqb, lemmas.Bool.Decides.nat_tests, lemmas.Grind.common_steps, lemmas.Int.ints, lemmas.Int.to_z-of_z, lemmas.Result.err_from_is_err_and, lemmas.Slice.Eq.strip_prefix_is, lemmas.Str.digit_value-digit_char, lemmas.Str.digit_value_digit}
+pub use Rattle.std.proofs.{Math.Bool.or-false, Math.Bool.or-true, Math.Nat.pow-le-pow_right, Math.Seq.drop-append_seam, Math.Seq.drop-cons, Math.Seq.take-append_seam, lemmas.Bool.Decides.Decides-eqb, lemmas.Bool.Decides.nat_tests, lemmas.Grind.common_steps, lemmas.Int.ints, lemmas.Int.to_z-of_z, lemmas.Result.err_from_is_err_and, lemmas.Slice.Eq.strip_prefix_is, lemmas.Str.digit_value-digit_char, lemmas.Str.digit_value_digit}
 pub use Rattle.std.proofs.lemmas.Bool.{eqb-false, false_from_ne_true, false≢true, ltb-true}
 pub use Rattle.std.proofs.lemmas.Fmt.{decimal-digits_value, decimal_digit, decimal_injective, decimal_is_IsNumeral, decimal_nonempty, first_decimal, length-decimal-le, length_signed_le, signed_decimal_injective}
 pub use Rattle.std.proofs.lemmas.Int.Digits.{digits_more, digits_value-lt, digits_value_more}
-pub use Rattle.std.proofs.lemmas.List.Elements.{All-append, All-cons, All-head, All-map, All-nil, All-push, All-tail, All-take, All-weaker}
+pub use Rattle.std.proofs.lemmas.List.Elements.{All-append, All-cons, All-drop, All-head, All-map, All-nil, All-push, All-tail, All-take, All-weaker}
 pub use Rattle.std.proofs.lemmas.List.{append_cancel_left, flat_map_more, length-take-le, nil_from_length, take_all, take_more}
 pub use Rattle.std.proofs.lemmas.Str.Parse.{digit_from_value, numerals_by_value, tells_digits}
 pub use Rattle.std.specs.{Char.digit_char, Char.digit_value, Fmt.decimal, Fmt.signed_decimal, Int.Signed.mag, Prelude.IfSome, Prelude.MatchOption, Prelude.◌↔◌, Str.Parse.AllDigits, Str.Parse.digits_value, Str.bytes_eq}

@@ -1,7 +1,7 @@
 -- The entries and the bytes of one line after another.
 
-use Rattle.nap_make.proofs.{All, All-append, All-head, All-nil, All-push, All-tail, All-take, All-weaker, AllFit, BeginsLine, BeginsNoLine, BeginsWithSpace, Bool, Entry, Err, FaultMatchesDevice, Finishes, Fits, Ghosts, HaltsAfter, HasReadLines, IfErr, InRange, IsEntryLine, IsPlace, IsProper, IsReady, IsSome, IsUnendedLine, IsWritten, LineMaker, LineReader, LinesSoFar, List, MakeFault, MakerHasPut, MatchResult, None, Ok, OnOk, OpenDefinition, OpenedAt, Option, PublicLaws.lines_are_bounded, PublicLaws.lines_have_no_ends, PutsEntries, Result, SinkFault, SinkTook, Some, State, StopsLines, StopsLinesBy, TakesLines, TellsColumn, TookBroke, TookMore, ValueLemmas.no_cut, ValueLemmas.one_cut, WritesNone, [], after, ap, append-nil, append_assoc, arith, drop, false, false_from_ne_true, false≢true, fault_of_sink, fits_join, get_or, inr, is_some, length, length-append, line, Common.lines, lines_join, longest_line, ltb-true, nat_lt, nat_tests, refl, sink_model_of, start, subst, sym, take, take-append-drop, take-append_seam, true, walk, walks_join, ℕ, ◌++◌, ◌+◌, ◌<◌, ◌∙◌, ◌∷◌, ◌≡◌, ◌≢◌, ◌≤◌}
-use Rattle.nap_make.specs.ListMaking.{FeedsLines, KeepsPart, PutsEntry}
+use Rattle.nap_make.proofs.{All, All-append, All-drop, All-head, All-nil, All-push, All-tail, All-take, All-weaker, AllFit, BeginsLine, BeginsNoLine, BeginsWithSpace, Bool, Entry, Err, FaultMatchesDevice, Finishes, Fits, Ghosts, HaltsAfter, HasReadLines, IfErr, InRange, IsEntryLine, IsPlace, IsProper, IsReady, IsSome, IsUnendedLine, IsWritten, LineMaker, LineReader, LinesSoFar, List, MakeFault, MakerHasPut, MatchResult, None, Ok, OnOk, OpenDefinition, OpenedAt, Option, PublicLaws.lines_are_bounded, PublicLaws.lines_have_no_ends, PutsEntries, Result, SinkFault, SinkTook, Some, State, StopsLines, StopsLinesBy, TakesLines, TellsColumn, TookBroke, TookMore, ValueLemmas.no_cut, ValueLemmas.one_cut, WritesNone, [], after, ap, append-nil, append_assoc, arith, drop, drop-append_seam, false, false_from_ne_true, false≢true, fault_of_sink, fits_join, get_or, inl, inr, is_some, length, length-append, line, Common.lines, lines_join, longest_line, ltb-true, nat_lt, nat_tests, refl, sink_model_of, start, subst, sym, take, take-append-drop, take-append_seam, true, walk, walks_join, ℕ, ◌++◌, ◌+◌, ◌<◌, ◌^◌, ◌∙◌, ◌∷◌, ◌≡◌, ◌≢◌, ◌≤◌, ◌⊎◌}
+use Rattle.nap_make.specs.ListMaking.{FeedsLines, HasLineMemory, KeepsPart, PutsEntry}
 
 -- One more entry, after those of earlier lines.
 
@@ -110,6 +110,10 @@ opened_still es ds number h none = record {
   unended = All-append (λ x. x ≢ Entry.DefEnd) h.inside ds h.unended none;
 }
 
+-- the first of the lines of some entries
+pub lines_first : (e : Entry) (es : List Entry) (rest : List ℕ) → lines (e ∷ es) ++ rest ≡ line e ++ 10 ∷ (lines es ++ rest)
+lines_first e es rest = grind (arith, append_assoc)
+
 -- the lines of some entries, of which the first are put
 first_put : (es ds d tail : List Entry) (q rest : List ℕ) → ds ≡ d ++ tail → All IsProper es → AllFit start es → All IsProper ds → AllFit (walk start es) ds → q ≡ lines es ++ (lines ds ++ rest) → LinesSoFar q (es ++ d) (lines tail ++ rest)
 first_put es ds d tail q rest is proper fit all fits parts = record {
@@ -159,10 +163,23 @@ module _ {S : Type 0} {g : Ghosts S} {s : S} {es : List Entry} {old : LineMaker 
       begins d tail is = first_put es ds d tail (lines es ++ bytes) rest is holds.proper holds.fit proper (subst (λ u. AllFit u ds) holds.state fits) (ap (lines es ++◌) parts)
 
       by : (f : MakeFault) → PutsEntries g s es ds new (Err f) → StopsLines g s (lines es ++ bytes) new.sink f
-      by MakeFault.Memory h = record {
+      by MakeFault.Memory (inl h) = record {
         entries = es ++ h.0;
-        first = (lines h.1 ++ rest, begins h.0 h.1 h.2);
-        why = (λ more. (lines h.1 ++ (rest ++ more), so_far h.0 h.1 h.2 more), h.3);
+        first = (lines (h.1 ∷ h.2) ++ rest, begins h.0 (h.1 ∷ h.2) h.3);
+        why = (
+          inl (record {
+            entry = h.1;
+            rest = lines h.2 ++ rest;
+            so_far = subst (LinesSoFar (lines es ++ bytes) (es ++ h.0)) (lines_first h.1 h.2 rest) (begins h.0 (h.1 ∷ h.2) h.3);
+            proper = All-head IsProper h.1 h.2 (subst (All IsProper) (drop-append_seam h.0 (h.1 ∷ h.2)) (All-drop IsProper (length h.0) (h.0 ++ h.1 ∷ h.2) (subst (All IsProper) h.3 proper)));
+          }),
+          h.4,
+        );
+      }
+      by MakeFault.Memory (inr h) = record {
+        entries = es;
+        first = (bytes, record { proper = holds.proper; fit = holds.fit; parts = refl });
+        why = (inr (inr (record { others = ds; first = (lines [] ++ rest, begins ds [] (sym (append-nil ds))); many = h.0 })), h.1);
       }
       by MakeFault.Write h = record {
         entries = es ++ h.0;
@@ -179,8 +196,8 @@ module _ {S : Type 0} {g : Ghosts S} {s : S} {es : List Entry} {old : LineMaker 
       }
       by _ h = absurd h
 
-  pub none_put : (ds : List Entry) → PutsEntries g s es ds old (Err MakeFault.Memory)
-  none_put ds = ([], ds, refl, subst (λ xs. SinkTook g s xs old.sink) (sym (append-nil es)) holds.kept)
+  pub none_put : (ds : List Entry) → 2 ^ 64 ≤ old.lines + length ds + 1 → PutsEntries g s es ds old (Err MakeFault.Memory)
+  none_put ds many = inr (omega (arith, many, holds.count, length-append es ds), holds.kept)
 
   -- no further entry was put
   pub none_more : (ds : List Entry) → ds ≡ [] → MakerHasPut g s (es ++ ds) old
@@ -350,26 +367,26 @@ one_column bytes c d one two = by (nat_lt (length one.right) (length two.right))
 -- a line with LF was refused, all of which is this
 abbrev pub RefusesLine : {S : Type 0} → Ghosts S → S → List Entry → List ℕ → LineMaker S → MakeFault → Type 0
 RefusesLine g s es bytes m (MakeFault.Line number column) = (number ≡ length es + 1) × ((more : List ℕ) → BeginsNoLine (bytes ++ 10 ∷ more) × TellsColumn (bytes ++ 10 ∷ more) column) × SinkTook g s es m.sink
-RefusesLine g s es bytes m MakeFault.Memory = SinkTook g s es m.sink
+RefusesLine g s es bytes m MakeFault.Memory = (IsEntryLine bytes ⊎ (2 ^ 64 ≤ length es + 1)) × SinkTook g s es m.sink
 RefusesLine g s es bytes m fault = (e : Entry) × IsWritten IsProper line bytes e × PutsEntry g s es e m (Err fault)
 
 module _ {S : Type 0} (g : Ghosts S) where
   -- a line that is too long
-  keeps_long : (s : S) (es : List Entry) (m : LineMaker S) (bytes prefix more : List ℕ) (f : MakeFault) → bytes ≡ prefix ++ more → All (λ x. x ≢ 10) prefix → longest_line < length prefix →
-      MakerHasPut g s es m → IsUnendedLine es prefix f → KeepsPart g s es bytes m f
-  keeps_long s es m bytes prefix more f is fits h also same = grind (arith, length-append, append_assoc, long_begins_none, column_long)
+  keeps_long : (s : S) (es : List Entry) (m : LineMaker S) (part bytes prefix more : List ℕ) (f : MakeFault) → part ++ bytes ≡ prefix ++ more → All (λ x. x ≢ 10) prefix → longest_line < length prefix →
+      MakerHasPut g s es m → IsUnendedLine es prefix f → KeepsPart g s es part bytes m f
+  keeps_long s es m part bytes prefix more f is fits h also same = grind (arith, length-append, append_assoc, long_begins_none, column_long)
 
   -- at most one byte more than a line may have is kept
   pub keeps_prefix : {s : S} {es : List Entry} {m : LineMaker S} {prefix : List ℕ} (part bytes : List ℕ) (kept : ℕ) (f : MakeFault) → prefix ≡ part ++ take kept bytes → All (λ x. x ≢ 10) part → All (λ x. x ≢ 10) bytes →
-      longest_line < length prefix → MakerHasPut g s es m → IsUnendedLine es prefix f → KeepsPart g s es (part ++ bytes) m f
+      longest_line < length prefix → MakerHasPut g s es m → IsUnendedLine es prefix f → KeepsPart g s es part bytes m f
   keeps_prefix {s = s} {es = es} {m = m} {prefix = prefix} part bytes kept f is none also long holds h =
-      keeps_long s es m (part ++ bytes) prefix (drop kept bytes) f
+      keeps_long s es m part bytes prefix (drop kept bytes) f
       (sym (ap (◌++ drop kept bytes) is ∙ append_assoc part (take kept bytes) (drop kept bytes) ∙ ap (part ++◌) (take-append-drop kept bytes)))
       (subst (All (λ x. x ≢ 10)) (sym is) (All-append (λ x. x ≢ 10) part (take kept bytes) none (All-take (λ x. x ≢ 10) kept bytes also))) long holds h
 
   -- a line that was refused before its end
-  pub part_refused : (s : S) (es : List Entry) (bytes : List ℕ) (m : LineMaker S) (f : MakeFault) → KeepsPart g s es bytes m f → RefusesLine g s es bytes m f
-  part_refused s es bytes m f is = grind arith
+  pub part_refused : (s : S) (es : List Entry) (part bytes : List ℕ) (m : LineMaker S) (f : MakeFault) → part ≢ [] → KeepsPart g s es part bytes m f → RefusesLine g s es (part ++ bytes) m f
+  part_refused s es part bytes m f some is = grind arith
 
   -- the entry of a line wasn't put
   pub entry_refused : (s : S) (es : List Entry) (bytes : List ℕ) (e : Entry) (m : LineMaker S) (f : MakeFault) → IsWritten IsProper line bytes e → PutsEntry g s es e m (Err f) → RefusesLine g s es bytes m f
@@ -377,13 +394,14 @@ module _ {S : Type 0} (g : Ghosts S) where
 
   -- the bytes after the last LF of a piece are kept
   pub ready_last : {old : LineReader S} (new : LineReader S) (rest : List ℕ) (r : Result (Unit {0}) MakeFault) → IsReady g old → All (λ b. b ≢ 10) rest → OnOk r (new.part.items ≡ old.part.items ++ rest) →
-      OnOk r (new.maker ≡ old.maker) → OnOk r (length new.part.items ≤ longest_line) → OnOk r (IsReady g new)
-  ready_last {old = old} new rest (Ok done) ready none part maker short = record {
+      OnOk r (new.maker ≡ old.maker) → OnOk r (length new.part.items ≤ longest_line) → OnOk r (HasLineMemory new.part) → OnOk r (IsReady g new)
+  ready_last {old = old} new rest (Ok done) ready none part maker short memory = record {
     agrees = subst (λ (m : LineMaker S). g.state m.sink ≡ m.state) (sym maker) ready.agrees;
     whole = subst (All (λ b. b ≢ 10)) (sym part) (All-append (λ b. b ≢ 10) old.part.items rest ready.whole none);
     short = short;
+    memory = memory;
   }
-  ready_last new rest (Err f) ready none part maker short = tt
+  ready_last new rest (Err f) ready none part maker short memory = tt
 
   -- after the end of a line
   pub ended_ready : {r : LineReader S} → r.part.items ≡ [] → g.state r.maker.sink ≡ r.maker.state → IsReady g r
@@ -435,7 +453,23 @@ module _ {S : Type 0} {g : Ghosts S} {s : S} {es : List Entry} {old : LineMaker 
         h.2.2,
       )
       by (MakeFault.Open number opening) h = absurd h.2
-      by MakeFault.Memory h = (λ more. (bytes ++ 10 ∷ (rest ++ more), after_line more), h)
+      by MakeFault.Memory (inl has, kept) = (
+        inl (record {
+          entry = has.0;
+          rest = rest;
+          so_far = so_far q (line has.0 ++ 10 ∷ rest) (parts ∙ ap (λ xs. lines es ++ (xs ++ 10 ∷ rest)) has.1.written);
+          proper = has.1.fitting;
+        }),
+        kept,
+      )
+      by MakeFault.Memory (inr many, kept) = (
+        inr (inr (record {
+          others = [];
+          first = (bytes ++ 10 ∷ rest, subst (λ xs. LinesSoFar q xs (bytes ++ 10 ∷ rest)) (sym (append-nil es)) (so_far q (bytes ++ 10 ∷ rest) parts));
+          many = subst (λ xs. 2 ^ 64 ≤ length xs + 1) (sym (append-nil es)) many;
+        })),
+        kept,
+      )
       by MakeFault.Write h = (h.0, λ more. (rest ++ more, so_far_more (q ++ more) es h.0 (rest ++ more) (after_entry h.0 more h.1.written) h.1.fitting h.2.0), h.2.1)
 
   -- a line that no entry has makes no list
@@ -446,21 +480,22 @@ module _ {S : Type 0} {g : Ghosts S} {s : S} {es : List Entry} {old : LineMaker 
       (place, λ more. (whole_begins_none bytes more none h.0, column_ended bytes more column none h.0 h.1), kept)
 
   -- a refused part of a line makes no list
-  pub keep_stops : {q : List ℕ} (bytes : List ℕ) (m : LineMaker S) (f : MakeFault) → q ≡ lines es ++ bytes → KeepsPart g s es bytes m f → StopsLines g s q m.sink f
-  keep_stops {q = q} bytes m (MakeFault.Line number column) parts h =
-      stops q bytes m (MakeFault.Line number column) parts (
+  pub keep_stops : {q : List ℕ} (part bytes : List ℕ) (m : LineMaker S) (f : MakeFault) → q ≡ lines es ++ (part ++ bytes) → All (λ b. b ≢ 10) (part ++ bytes) → KeepsPart g s es part bytes m f → StopsLines g s q m.sink f
+  keep_stops {q = q} part bytes m (MakeFault.Line number column) parts whole h =
+      stops q (part ++ bytes) m (MakeFault.Line number column) parts (
         λ more. record {
-          rest = bytes ++ more;
-          so_far = so_far (q ++ more) (bytes ++ more) (with_more q bytes more parts);
+          rest = (part ++ bytes) ++ more;
+          so_far = so_far (q ++ more) ((part ++ bytes) ++ more) (with_more q (part ++ bytes) more parts);
           place = h.0;
-          some = omega (arith, h.1, length-append bytes more);
+          some = omega (arith, h.1, length-append (part ++ bytes) more);
           none = (h.2 more).0;
           begins = (h.2 more).1;
         },
         h.3,
       )
-  keep_stops {q = q} bytes m MakeFault.Memory parts h = stops q bytes m MakeFault.Memory parts (λ more. (bytes ++ more, so_far (q ++ more) (bytes ++ more) (with_more q bytes more parts)), h)
-  keep_stops bytes m _ parts h = absurd h
+  keep_stops {q = q} part bytes m MakeFault.Memory parts whole h =
+      stops q (part ++ bytes) m MakeFault.Memory parts (inr (inl (record { rest = part ++ bytes; so_far = so_far q (part ++ bytes) parts; some = h.0; none = whole })), h.2)
+  keep_stops part bytes m _ parts whole h = absurd h
 
   -- the lines end without LF
   pub finishes_cut : {p : List ℕ} (bytes : List ℕ) (f : MakeFault) → p ≡ lines es ++ bytes → All (λ x. x ≢ 10) bytes → 0 < length bytes → IsUnendedLine es bytes f → Finishes g s p old.sink (Err f)
@@ -475,7 +510,7 @@ module _ {S : Type 0} {g : Ghosts S} {s : S} {es : List Entry} {old : LineMaker 
     entries = es;
     first = (bytes, so_far p bytes parts);
     own = λ is. let bad : ⊥ = cc in bad;
-    why = (bytes, so_far p bytes parts);
+    why = inr (inl (record { rest = bytes; so_far = so_far p bytes parts; some = some; none = none }));
     kept = holds.kept;
   }
   finishes_cut bytes _ parts none some h = absurd h
@@ -502,9 +537,9 @@ module _ {S : Type 0} {g : Ghosts S} where
 
   -- the bytes after the last LF of a piece were read, or make no list
   pub read_last : {s : S} {p rest : List ℕ} {old : LineReader S} (new : LineReader S) (r : Result (Unit {0}) MakeFault) → HasReadTo g s p old rest → OnOk r (new.part.items ≡ old.part.items ++ rest) →
-      OnOk r (new.maker ≡ old.maker) → IfErr r (λ f. (s : S) (es : List Entry) → MakerHasPut g s es old.maker → KeepsPart g s es (old.part.items ++ rest) new.maker f) → FeedsLines g s p new r
-  read_last new (Ok ok) h part maker keeps = grind arith
-  read_last new (Err f) h part maker keeps = keep_stops h.holds _ new.maker f h.parts (keeps _ h.entries h.holds)
+      OnOk r (new.maker ≡ old.maker) → All (λ b. b ≢ 10) (old.part.items ++ rest) → IfErr r (λ f. (s : S) (es : List Entry) → MakerHasPut g s es old.maker → KeepsPart g s es old.part.items rest new.maker f) → FeedsLines g s p new r
+  read_last new (Ok ok) h part maker whole keeps = grind arith
+  read_last {rest = rest} {old = old} new (Err f) h part maker whole keeps = keep_stops h.holds old.part.items rest new.maker f h.parts whole (keeps _ h.entries h.holds)
 
   -- the next lines of a piece
   pub next_parts : {s : S} {p : List ℕ} {r : LineReader S} (prefix more : List ℕ) (h : HasReadTo g s p r (prefix ++ 10 ∷ more)) → p ≡ lines h.entries ++ ((r.part.items ++ prefix) ++ 10 ∷ more)

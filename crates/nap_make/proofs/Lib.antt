@@ -8,3 +8,4 @@ pub mod PublicLaws
 pub mod CharLemmas
 pub mod FeedLemmas
 pub mod PageLemmas
+pub mod AgreeLemmas

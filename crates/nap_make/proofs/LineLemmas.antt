@@ -1,6 +1,6 @@
 -- Lines by their kinds, and the column of the fault of a line that is none.
 
-use Rattle.nap_make.proofs.{All, All-append, All-cons, All-head, All-nil, All-tail, BeginsLine, BeginsNoPoint, CharSet, CharSize, Colour, Coordinates, CursorKind, EndsPoints, EndsWithSpace, Entry, Err, Fields, FitsSort, HasFields, HasPoints, InRange, InSort, IsChosen, IsColumnAtName, IsFirstWrong, IsInSquare, IsNameAlone, IsPlace, IsProper, IsWritten, Kind, LineFault, List, Mask, MatchResult, None, Ok, Option, Origin, Pen, Result, Size, Some, Sort, SplitsAtByte, TellsColumn, TellsLine, TextStep, Value, WritesNone, [], ap, append-nil, append_assoc, arith, codes, false, field_text, fields_before, fields_line, fields_of, fields_text, get_or, inl, inr, kind_row, least_points, length, length-append, line, line_from, line_name, point_text, points_before, points_limit, pos, refl, subst, sym, ℕ, ◌++◌, ◌+◌, ◌-◌, ◌<◌, ◌∙◌, ◌∷◌, ◌≡◌, ◌≢◌, ◌≤◌, ◌⊎◌}
+use Rattle.nap_make.proofs.{All, All-append, All-cons, All-head, All-nil, All-tail, BeginsLine, BeginsNoPoint, CharSet, CharSize, Colour, Coordinates, CursorKind, EndsPoints, EndsWithSpace, Entry, Err, Fields, FitsSort, HasFields, HasPoints, InRange, InSort, IsChosen, IsColumnAtName, IsEntryLine, IsFirstWrong, IsInSquare, IsNameAlone, IsPlace, IsProper, IsWritten, Kind, LineFault, List, Mask, MatchResult, None, Ok, Option, Origin, Pen, Result, Size, Some, Sort, SplitsAtByte, TellsColumn, TellsLine, TextStep, Value, WritesNone, [], ap, append-nil, append_assoc, arith, codes, false, field_text, fields_before, fields_line, fields_of, fields_text, get_or, inl, inr, kind_row, least_points, length, length-append, line, line_from, line_name, point_text, points_before, points_limit, pos, refl, subst, sym, ℕ, ◌++◌, ◌+◌, ◌-◌, ◌<◌, ◌∙◌, ◌∷◌, ◌≡◌, ◌≢◌, ◌≤◌, ◌⊎◌}
 use Rattle.nap_make.proofs.ValueLemmas.{above, apart_below, cut_text, no_cut, one_cut, point_spells, point_visible, spaceless, uncut}
 use Rattle.nap_make.proofs.FieldLemmas.{AreFields, AreOf, FieldsFit, HasEntry, LineIs, PointsFit, before_append, chosen_stays, fields_fit, first_stays, fits_append, fits_are, line_append, line_is, name_apart, none_in_row, one_kind, plain_entry_with, same_entry, shape_entry_with, stays}
 
@@ -485,6 +485,13 @@ shape_tells k {points = points} vs (Ok e) has ended enough fits is made =
     made_tells (Ok e) (shape_entry_with k points vs has ended.inside enough ended.few fits) (ended.parts ∙ ap (points_before points) is) made
 shape_tells k {points = points} vs (Err fault) has ended enough fits is made =
     made_tells (Err fault) (shape_entry_with k points vs has ended.inside enough ended.few fits) (ended.parts ∙ ap (points_before points) is) (λ e. made e has)
+
+-- right points and fields are the line of a shape
+pub shape_line : (k : Kind) {points : List Coordinates} (vs : List Value) {bytes rest : List ℕ} → HasPoints k → EndsPoints bytes points rest → least_points k ≤ length points → FitsSort (kind_row k) vs →
+    rest ≡ fields_text vs → IsEntryLine (line_from k bytes)
+shape_line k {points = points} vs has ended enough fits is =
+    let own = shape_entry_with k points vs has ended.inside enough ended.few fits in
+    (own.entry, fields_written own.proper own.fields (ended.parts ∙ ap (points_before points) is))
 
 -- what is left isn't longer than the line
 

@@ -62,6 +62,7 @@ no_lines = record { proper = All-nil IsProper; fit = tt; parts = refl }
 
 -- lines that show a fault have it
 pub shown_here : (p : List ℕ) (es : List Entry) (f : MakeFault) → ShowsNone p es f → MakesNone p es f
+shown_here p es MakeFault.Memory shows = shows
 shown_here p es f shows = subst (λ q. MakesNone q es f) (append-nil p) (shows [])
 
 module _ {O : Type 0} (o : outlet.Ghosts O) (w : O) (s : Canonical O) (begins : StartsText o w s) (works : o.failed s.outlet ≡ false) (g : Ghosts (Canonical O))
@@ -262,7 +263,8 @@ module _ {S : Type 0} (g : Ghosts S) (s : S) (p : List ℕ) (t : S) where
 
   -- the lines are no list's, or the sink failed
   pub puts_none : (f : MakeFault) → StopsLines g s p t f → PutsLines g s p t (Err f)
-  puts_none f is = grind (arith, shown_none)
+  puts_none MakeFault.Write is = is
+  puts_none f is = shown_none f is.entries (λ same. let bad : ⊥ = cc in bad) is.first is.why.0 is.why.1
 
   -- the lines ended
   pub puts_all : (r : Result ℕ MakeFault) → Finishes g s p t r → PutsLines g s p t r

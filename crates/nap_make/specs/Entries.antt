@@ -61,9 +61,9 @@ pub record TellsColumn (bytes : List ℕ) (column : ℕ) : Type 0 where
   pub begins : BeginsLine right
   pub longest : (more rest : List ℕ) → left ≡ more ++ rest → IsPlace (right ++ more) rest → BeginsLine (right ++ more) → more ≡ []
 
--- The answer for a line: its entry; or the column of its fault, where no entry has it; or lack of memory, which only points
--- take.
+-- The answer for a line: its entry; or the column of its fault, where no entry has it; or lack of memory, where it is the
+-- line of an arc or polygon, whose points take it.
 abbrev pub TellsLine : List ℕ → Result Entry LineFault → Type 0
 TellsLine bytes (Ok e) = IsWritten IsProper line bytes e
 TellsLine bytes (Err (LineFault.Line column)) = WritesNone IsProper line bytes × TellsColumn bytes column
-TellsLine bytes (Err LineFault.Memory) = BeginsShape bytes
+TellsLine bytes (Err LineFault.Memory) = BeginsShape bytes × IsEntryLine bytes

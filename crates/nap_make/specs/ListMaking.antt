@@ -1,5 +1,6 @@
-use Rattle.std.specs.Prelude.{All, Err, IsSome, List, Ok, Result, [], false, length, true, ℕ, ◌++◌, ◌+◌, ◌<◌, ◌∷◌, ◌≡◌, ◌≢◌, ◌≤◌, ◌⊎◌}
+use Rattle.std.specs.Prelude.{All, Err, IsSome, List, Ok, Result, Vec, [], false, length, true, ℕ, ◌++◌, ◌+◌, vec_capacity, ◌<◌, ◌^◌, ◌∷◌, ◌≡◌, ◌≢◌, ◌≤◌, ◌⊎◌}
 use Rattle.nap_make.specs.Types.{AllFit, Entry, Fits, Ghosts, IsCutOff, IsReadWhole, LineMaker, ListFault, MakeFault, NoneFailed, Reading, lines, start, walk}
+use Rattle.std.specs.declared.alloc.Global.{Global}
 use Rattle.nap_make.specs.{Entries.IsProper, Entries.TellsColumn, Laws.longest_line, declared.lines.reader.LineReader.LineReader}
 use Rattle.nap_make.specs.Lists.{AreLines, BeginsNoLine, ComeFirst, LinesSoFar, MakesNone, OpenedAt, ShowsNone}
 
@@ -42,17 +43,22 @@ PutsEntry g s es e m (Err _) = ⊥
 -- the fault of a last line without LF, or of one that is too long
 abbrev pub IsUnendedLine : List Entry → List ℕ → MakeFault → Type 0
 IsUnendedLine es bytes (MakeFault.Line number column) = (number ≡ length es + 1) × TellsColumn bytes column
-IsUnendedLine es bytes MakeFault.Memory = Unit {0}
+IsUnendedLine es bytes MakeFault.Memory = 2 ^ 64 ≤ length es + 1
 IsUnendedLine es bytes _ = ⊥
 
 -- The reader of lines.
 
--- What holds of a reader between two pieces: its maker and its sink have one state, and what it keeps of a line has no
--- LF and at most one byte more than a line may have.
+-- no bytes of a line are kept, or there is memory for more than a line may have
+abbrev pub HasLineMemory : Vec ℕ Global → Type 0
+HasLineMemory part = (part.items ≡ []) ⊎ (longest_line < vec_capacity part)
+
+-- What holds of a reader between two pieces: its maker and its sink have one state; what it keeps of a line has no LF and
+-- at most as many bytes as a line may have; and it has memory for one byte more.
 pub record IsReady {S : Type 0} (g : Ghosts S) (r : LineReader S) : Type 0 where
   pub agrees : g.state r.maker.sink ≡ r.maker.state
   pub whole : All (λ b. b ≢ 10) r.part.items
   pub short : length r.part.items ≤ longest_line
+  pub memory : HasLineMemory r.part
 
 -- A reader that began with a sink s has read the bytes p.
 pub record HasReadLines {S : Type 0} (g : Ghosts S) (s : S) (p : List ℕ) (r : LineReader S) : Type 0 where
@@ -66,11 +72,11 @@ pub record StopsLines {S : Type 0} (g : Ghosts S) (s : S) (p : List ℕ) (t : S)
   pub first : ComeFirst p entries
   pub why : StopsLinesBy g s p entries t fault
 
--- bytes of a line were read, all of which are these, without LF
-abbrev pub KeepsPart : {S : Type 0} → Ghosts S → S → List Entry → List ℕ → LineMaker S → MakeFault → Type 0
-KeepsPart g s es bytes m (MakeFault.Line number column) = (number ≡ length es + 1) × (0 < length bytes) × ((more : List ℕ) → BeginsNoLine (bytes ++ more) × TellsColumn (bytes ++ more) column) × SinkTook g s es m.sink
-KeepsPart g s es bytes m MakeFault.Memory = SinkTook g s es m.sink
-KeepsPart g s es bytes m _ = ⊥
+-- bytes of a line were read after this part of it, and all have no LF; memory runs out only for the first part
+abbrev pub KeepsPart : {S : Type 0} → Ghosts S → S → List Entry → List ℕ → List ℕ → LineMaker S → MakeFault → Type 0
+KeepsPart g s es part bytes m (MakeFault.Line number column) = (number ≡ length es + 1) × (0 < length (part ++ bytes)) × ((more : List ℕ) → BeginsNoLine ((part ++ bytes) ++ more) × TellsColumn ((part ++ bytes) ++ more) column) × SinkTook g s es m.sink
+KeepsPart g s es part bytes m MakeFault.Memory = (0 < length (part ++ bytes)) × ((part ≡ []) ⊎ (2 ^ 64 ≤ length es + 1)) × SinkTook g s es m.sink
+KeepsPart g s es part bytes m _ = ⊥
 
 -- more bytes were read, or they aren't the lines of a list
 abbrev pub FeedsLines : {S : Type 0} → Ghosts S → S → List ℕ → LineReader S → Result (Unit {0}) MakeFault → Type 0

@@ -1,4 +1,4 @@
-use Rattle.std.specs.Prelude.{All, IsSome, List, None, [], length, ℕ, ◌++◌, ◌+◌, ◌<◌, ◌∷◌, ◌≡◌, ◌≢◌}
+use Rattle.std.specs.Prelude.{All, IsSome, List, None, [], length, ℕ, ◌++◌, ◌+◌, ◌<◌, ◌^◌, ◌∷◌, ◌≡◌, ◌≢◌, ◌≤◌, ◌⊎◌}
 use Rattle.nap_make.specs.Types.{AllFit, AllInRange, Entry, Fits, Legal, MakeFault, line, lines, start, walk}
 use Rattle.nap_make.specs.Entries.{IsProper, TellsColumn}
 
@@ -61,15 +61,39 @@ pub record OpenAt (p : List ℕ) (es : List Entry) (number opening : ℕ) : Type
 abbrev pub ComeFirst : List ℕ → List Entry → Type 0
 ComeFirst p es = (rest : List ℕ) × LinesSoFar p es rest
 
--- Why lines, after those of these entries, aren't a list's. Memory may run out anywhere, and a device fails at the
--- entry of one more line.
+-- After the lines of these entries comes that of one more.
+pub record OneMoreAt (p : List ℕ) (es : List Entry) : Type 0 where
+  pub entry : Entry
+  pub rest : List ℕ
+  pub so_far : LinesSoFar p es (line entry ++ 10 ∷ rest)
+  pub proper : IsProper entry
+
+-- After the lines of these entries come bytes of a line whose end isn't read.
+pub record PartAt (p : List ℕ) (es : List Entry) : Type 0 where
+  pub rest : List ℕ
+  pub so_far : LinesSoFar p es rest
+  pub some : 0 < length rest
+  pub none : All (λ b. b ≢ 10) rest
+
+-- The lines of these entries and of others come first, and the number of one more line doesn't fit into 64 bits.
+pub record UncountedAt (p : List ℕ) (es : List Entry) : Type 0 where
+  pub others : List Entry
+  pub first : ComeFirst p (es ++ others)
+  pub many : 2 ^ 64 ≤ length (es ++ others) + 1
+
+-- where memory may run out: for one more entry, for bytes of a line that are kept, or for the number of lines
+abbrev pub MayLack : List ℕ → List Entry → Type 0
+MayLack p es = OneMoreAt p es ⊎ (PartAt p es ⊎ UncountedAt p es)
+
+-- Why lines, after those of these entries, aren't a list's. A device fails at the entry of one more line.
 abbrev pub MakesNone : List ℕ → List Entry → MakeFault → Type 0
 MakesNone p es (MakeFault.Line number column) = NoLineAt p es number column
 MakesNone p es (MakeFault.Misfit number) = MisfitAt p es number
 MakesNone p es (MakeFault.Open number opening) = OpenAt p es number opening
-MakesNone p es MakeFault.Memory = ComeFirst p es
+MakesNone p es MakeFault.Memory = MayLack p es
 MakesNone p es MakeFault.Write = (e : Entry) × ComeFirst p (es ++ e ∷ [])
 
--- lines, and whatever follows them, aren't a list's
+-- lines, and whatever follows them, aren't a list's; for lack of memory the lines so far count
 abbrev pub ShowsNone : List ℕ → List Entry → MakeFault → Type 0
+ShowsNone p es MakeFault.Memory = MayLack p es
 ShowsNone p es fault = (more : List ℕ) → MakesNone (p ++ more) es fault

@@ -1,4 +1,4 @@
-use Rattle.std.specs.Prelude.{Err, List, Ok, Result, [], flat_map, length, ℕ, ◌++◌, ◌∷◌, ◌≡◌, ◌≢◌, ◌≤◌}
+use Rattle.std.specs.Prelude.{Err, List, Ok, Result, [], flat_map, length, ℕ, ◌++◌, ◌+◌, ◌^◌, ◌∷◌, ◌≡◌, ◌≢◌, ◌≤◌, ◌⊎◌}
 use Rattle.nap_make.specs.Types.{Entry, Fits, Ghosts, Hand, LineMaker, MakeFault, after, code_text, line, lines}
 use Rattle.nap_codes.specs.declared.code_set.CharSet.{CharSet}
 use Rattle.nap_list.specs.{declared.attribute.Pen.TheVariants.After, declared.sink.SinkFault.SinkFault, declared.state.State.State}
@@ -48,10 +48,10 @@ abbrev pub fault_of_sink : SinkFault → MakeFault
 fault_of_sink SinkFault.Memory = MakeFault.Memory
 fault_of_sink SinkFault.Write = MakeFault.Write
 
--- the entries were put after these; or memory ran out after some, or the device failed during one
+-- the entries were put after these; or memory ran out for one, or for their number, or the device failed during one
 abbrev pub PutsEntries : {S : Type 0} → Ghosts S → S → List Entry → List Entry → LineMaker S → Result (Unit {0}) MakeFault → Type 0
 PutsEntries g s es ds m (Ok done) = MakerHasPut g s (es ++ ds) m
-PutsEntries g s es ds m (Err MakeFault.Memory) = (d : List Entry) × (rest : List Entry) × (ds ≡ d ++ rest) × SinkTook g s (es ++ d) m.sink
+PutsEntries g s es ds m (Err MakeFault.Memory) = ((d : List Entry) × (e : Entry) × (rest : List Entry) × (ds ≡ d ++ e ∷ rest) × SinkTook g s (es ++ d) m.sink) ⊎ ((2 ^ 64 ≤ length (es ++ ds) + 1) × SinkTook g s es m.sink)
 PutsEntries g s es ds m (Err MakeFault.Write) = (d : List Entry) × (e : Entry) × (rest : List Entry) × (ds ≡ d ++ e ∷ rest) × SinkBroke g s (es ++ d) e m.sink
 PutsEntries g s es ds m (Err _) = ⊥
 

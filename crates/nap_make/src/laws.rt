@@ -1,7 +1,8 @@
 //! Laws about lines, and about the pages that they make. Each is the contract of a function that does nothing.
 #![tactic(auto, using(crate::proofs::PublicLaws::laws))]
 
-ghost use Rattle.nap_make.specs.Laws.{ColumnsAreOne, LineTellsEntry, LinesAreBounded, LinesHaveNoEnds, LinesTellLists};
+ghost use Rattle.nap_make.specs.Laws.{AnswersOfMakeAgree, ColumnsAreOne};
+ghost use Rattle.nap_make.specs.Laws.{LineTellsEntry, LinesAreBounded, LinesHaveNoEnds, LinesTellLists};
 ghost use Rattle.nap_make.specs.PageLaws.{ListsTellStreams, MadePagesAgree};
 
 /// Entries in range with equal lines are equal, and so are lists of them.
@@ -23,6 +24,11 @@ pub fn lines_have_no_ends()
 /// The fault of a line has one column.
 pub fn columns_are_one()
     ensures { ColumnsAreOne }
+{}
+
+/// Lines have one answer, lack of memory and failed devices apart.
+pub fn answers_of_make_agree()
+    ensures { AnswersOfMakeAgree }
 {}
 
 /// Accepted pages have equal canonical streams exactly if their lists have equal lines.

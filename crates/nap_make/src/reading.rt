@@ -1,5 +1,6 @@
 //! Reading of a line.
-ghost use Rattle.std.specs.Prelude.{◌≡◌, ◌+◌, length, MatchOption, ◌++◌, ◌∷◌, [], IfOk, ◌≤◌};
+ghost use Rattle.std.specs.Prelude.{◌≡◌, ◌+◌, length, List, MatchOption, ◌++◌, ◌∷◌, [], true, ◌≤◌};
+ghost use Rattle.nap_make.specs.Types.{Coordinates};
 ghost use Rattle.nap_make.specs.Entries.{IsNameAlone, IsColumnAtName, IsWrittenAlone, TellsLine};
 ghost use Rattle.nap_make.specs.Kinds.{HasPoints, IsChosen, line_from, least_points};
 ghost use Rattle.nap_make.specs.Rows.{EndsPoints, TellsRow};
@@ -12,7 +13,7 @@ use crate::field::{FIELDS, Sort, Value};
 use crate::kind::Kind;
 use arrayvec::ArrayVec;
 use nap_list::{Entry, Points, SHAPE_POINTS};
-use std::alloc::{AllocError, Global};
+use std::alloc::Global;
 
 /// The entry of a line, or why it has none.
 type Answer = Result<Entry, LineFault>;
@@ -42,23 +43,25 @@ fn read_row(values: &mut ArrayVec<Value, FIELDS>, row: Row, bytes: &[u8]) -> Res
     Err(rest.len())
 }
 
-/// Reads as many points as there are, a space behind each, up to the limit, and returns what follows them.
-fn read_points<'a>(points: &mut Points, bytes: &'a [u8]) -> Result<&'a [u8], AllocError>
+/// Reads as many points as there are, a space behind each, up to the limit. Returns their number, whether memory held all
+/// of them, and what follows them.
+fn read_points<'a>(points: &mut Points, bytes: &'a [u8]) -> (usize, bool, &'a [u8])
     requires none { points.old ≡ [] }
-    ensures { IfOk result (λ rest. EndsPoints bytes.now points.new rest.now) }
+    ensures { (all : List Coordinates) × EndsPoints bytes.now all result.2.now × (result.0 ≡ length all) × (result.1 ≡ true → points.new ≡ all) }
 {
-    let mut rest = bytes;
-    while points.as_slice().len() < SHAPE_POINTS {
+    let (mut count, mut kept, mut rest) = (0, true, bytes);
+    while count < SHAPE_POINTS {
         let Some((word, more)) = split_at_byte(rest, b' ') else {
-            return Ok(rest);
+            return (count, kept, rest);
         };
         let Some(at) = point(word) else {
-            return Ok(rest);
+            return (count, kept, rest);
         };
-        points.push(at)?;
+        kept = kept && points.push(at).is_ok();
+        count += 1;
         rest = more;
     }
-    Ok(rest)
+    (count, kept, rest)
 }
 
 /// Reads what a line of an arc or polygon with at least so many points has after its beginning and a space.
@@ -69,17 +72,18 @@ fn shape_entry(alloc: Global, kind: Kind, least: usize, end: usize, rest: &[u8])
     ensures { TellsLine (line_from kind rest.now) result }
 {
     let mut points = Points::new(alloc);
-    let Ok(left) = read_points(&mut points, rest) else {
-        return Err(LineFault::Memory);
-    };
-    if points.as_slice().len() < least {
+    let (count, kept, left) = read_points(&mut points, rest);
+    if count < least {
         return Err(LineFault::Line(end - left.len()));
     }
     let mut values: ArrayVec<Value, FIELDS> = ArrayVec::new();
-    match read_row(&mut values, kind.row(), left) {
-        Ok(()) => shape_of(kind, points, values.as_slice()),
-        Err(left) => Err(LineFault::Line(end - left)),
+    if let Err(left) = read_row(&mut values, kind.row(), left) {
+        return Err(LineFault::Line(end - left));
     }
+    if !kept {
+        return Err(LineFault::Memory);
+    }
+    shape_of(kind, points, values.as_slice())
 }
 
 /// Reads what a line of a kind without points has after its beginning and a space. `end` is the column after the line.

@@ -234,13 +234,15 @@ impl<S: Sink> LineMaker<S> {
         let Some(line) = self.lines.checked_add(1) else {
             return MakeFault::Memory;
         };
+        let whole = MakeFault::Line {
+            line,
+            column: bytes.len() + 1,
+        };
         match entry_of_line(alloc, bytes) {
-            Ok(_) => MakeFault::Line {
-                line,
-                column: bytes.len() + 1,
-            },
+            Ok(_) => whole,
             Err(LineFault::Line(column)) => MakeFault::Line { line, column },
-            Err(LineFault::Memory) => MakeFault::Memory,
+            // It is a line but for its LF.
+            Err(LineFault::Memory) => whole,
         }
     }
 }

@@ -2,7 +2,7 @@
 ghost use Rattle.std.specs.Prelude.{◌≡◌, ◌≢◌, ◌≤◌, ◌++◌, ◌∷◌, ℕ, List, [], All, IfErr, IfOk, MatchResult, OnOk, length, false};
 ghost use Rattle.nap_make.specs.Types.{Entry, lines, start};
 ghost use Rattle.nap_make.specs.Laws.{longest_line};
-ghost use Rattle.nap_make.specs.ListMaking.{FeedsLines, Finishes, MakerHasPut, IsReady, KeepsPart, HasReadLines, StopsLines};
+ghost use Rattle.nap_make.specs.ListMaking.{FeedsLines, Finishes, HasLineMemory, MakerHasPut, IsReady, KeepsPart, HasReadLines, StopsLines};
 ghost use Rattle.nap_make.specs.Runs.{LeavesRest, TakesLines};
 
 use crate::cutting::split_at_byte;
@@ -43,16 +43,21 @@ impl<S: Sink> LineReader<S> {
         }
     }
 
-    /// Reads bytes of a line. Keeps at most one byte more than a line may have.
+    /// Reads bytes of a line. Keeps at most one byte more than a line may have, and takes memory for so many at the first.
     fn keep_part(&mut self, alloc: Global, bytes: &[u8]) -> Result<(), MakeFault>
         requires { IsReady S.Sink self.old × All (λ b. b ≢ 10) bytes.now }
         ensures part { OnOk result (self.new.part.items ≡ self.old.part.items ++ bytes.now) }
         ensures maker { OnOk result (self.new.maker ≡ self.old.maker) }
         ensures short { OnOk result (length self.new.part.items ≤ longest_line) }
-        ensures keeps { IfErr result (λ f. (s : S) (es : List Entry) → MakerHasPut S.Sink s es self.old.maker → KeepsPart S.Sink s es (self.old.part.items ++ bytes.now) self.new.maker f) }
+        ensures memory { OnOk result (HasLineMemory self.new.part) }
+        ensures keeps { IfErr result (λ f. (s : S) (es : List Entry) → MakerHasPut S.Sink s es self.old.maker → KeepsPart S.Sink s es self.old.part.items bytes.now self.new.maker f) }
     {
-        let buffer = LONGEST_LINE + 1 - self.part.len();
-        let kept = min(buffer, bytes.len());
+        if bytes.is_empty() {
+            return Ok(());
+        }
+        let room = LONGEST_LINE + 1 - self.part.len();
+        self.part.reserve(room)?;
+        let kept = min(room, bytes.len());
         self.part.extend_from_slice(&bytes[..kept])?;
         if self.part.len() > LONGEST_LINE {
             // No line of an entry is as long.

@@ -1,4 +1,4 @@
-use Rattle.nap_make.proofs.{FitsSort, LineLemmas.left_fits, LineLemmas.plain_tells, LineLemmas.plain_wrong, List, Sort, Value, fields_text, kind_row, subst, sym, ◌≡◌}
+use Rattle.nap_make.proofs.{FitsSort, LineLemmas.left_fits, LineLemmas.plain_tells, LineLemmas.plain_wrong, List, Value, fields_text, kind_row, subst, sym, ◌≡◌}
 use Rattle.nap_make.proofs.reading.plain_entry.Goals as goal
 
 pub overflow_sub-result : goal.overflow_sub-result

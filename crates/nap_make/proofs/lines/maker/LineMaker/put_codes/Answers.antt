@@ -18,7 +18,9 @@ returns-in_default-clause-puts g c s es holds =
     none_more holds (text_entries d After set c.args.codes.now) (no_text set d c.args.codes.now c.in_default.ensures.cases)
 
 pub returns-in_default-checked_add-clause-puts : goal.returns-in_default-checked_add-clause-puts
-returns-in_default-checked_add-clause-puts g c s es holds = none_put holds (text_entries c.args.self.now.state.drawing After c.args.line.now.set c.args.codes.now)
+returns-in_default-checked_add-clause-puts g c s es holds =
+    let d = c.args.self.now.state.drawing in
+    none_put holds (text_entries d After c.args.line.now.set c.args.codes.now) (omega (arith, c.in_default-checked_add.ensures, text_count c.args.line.now.set (text_hand d) c.args.codes.now))
 
 pub returns-in-Err-clause-puts : goal.returns-in-Err-clause-puts
 returns-in-Err-clause-puts g c s es holds =

@@ -1,11 +1,11 @@
-use Rattle.nap_make.proofs.{Err, TellsLine, [], ap, err_from_is_err_and, refl, subst, ◌++◌, ◌+◌, ◌∙◌, ◌∷◌}
+use Rattle.nap_make.proofs.{Err, TellsLine, [], ap, arith, err_from_is_err_and, inl, inr, refl, subst, ◌++◌, ◌+◌, ◌∙◌, ◌∷◌}
 use Rattle.nap_make.specs.declared.lines.MakeFault.TheVariants.{Memory}
 use Rattle.nap_make.proofs.FeedLemmas.{entry_refused, line_stops, more_result, one_taken, refused_stops}
 use Rattle.nap_make.proofs.lines.maker.LineMaker.take_line.Goals as goal
 
 pub returns-in_default-clause-takes : goal.returns-in_default-clause-takes
 returns-in_default-clause-takes g c s es holds =
-    refused_stops holds c.args.bytes.now c.args.more.now c.args.self.now Memory refl holds.kept
+    refused_stops holds c.args.bytes.now c.args.more.now c.args.self.now Memory refl (inr (omega (arith, holds.count, c.in_default.ensures)), holds.kept)
 
 pub returns-in-Err-Line-clause-takes : goal.returns-in-Err-Line-clause-takes
 returns-in-Err-Line-clause-takes g c s es holds =
@@ -14,7 +14,8 @@ returns-in-Err-Line-clause-takes g c s es holds =
 
 pub returns-in-Err-Memory-clause-takes : goal.returns-in-Err-Memory-clause-takes
 returns-in-Err-Memory-clause-takes g c s es holds =
-    refused_stops holds c.args.bytes.now c.args.more.now c.args.self.now Memory refl holds.kept
+    let told = subst (λ f. TellsLine c.args.bytes.now (Err f)) c.in-Err-Memory.field-0-is c.in-Err-Memory.ensures in
+    refused_stops holds c.args.bytes.now c.args.more.now c.args.self.now Memory refl (inl told.1, holds.kept)
 
 pub returns-in_err-put_entry-clause-takes : goal.returns-in_err-put_entry-clause-takes
 returns-in_err-put_entry-clause-takes g c s es holds =

@@ -1,4 +1,4 @@
-use Rattle.nap_make.proofs.{All, All-append, FeedLemmas.always_ok, FeedLemmas.part_refused, FeedLemmas.refused_stops, MakerHasPut, MatchResult, StopsLines, TakesLines, [], ap, arith, err_from_is_err_and, Common.lines, nil_from_length, refl, subst, sym, ◌++◌, ◌∙◌, ◌∷◌, ◌≡◌, ◌≢◌}
+use Rattle.nap_make.proofs.{All, All-append, FeedLemmas.always_ok, FeedLemmas.part_refused, FeedLemmas.refused_stops, MakerHasPut, MatchResult, StopsLines, TakesLines, [], ap, arith, err_from_is_err_and, length, Common.lines, nil_from_length, refl, subst, sym, ◌++◌, ◌∙◌, ◌∷◌, ◌≡◌, ◌≢◌}
 use Rattle.nap_make.proofs.lines.reader.LineReader.end_line.Goals as goal
 
 pub returns-then-len-eq0-clause-part : goal.returns-then-len-eq0-clause-part
@@ -22,8 +22,9 @@ returns-in_err-keep_part-clause-takes g c s es holds =
     let more = c.args.more.now in
     let m = c.keep_part.new.self.maker in
     let f = c.in_err-keep_part.field-0.0 in
+    let some : c.args.self.now.part.items ≢ [] = λ empty. let size = ap length empty in absurd (omega (arith, size, c.len.ensures, c.if-len-eq0.false)) in
     let e = err_from_is_err_and c.from_residual.result c.from_residual.ensures.1 in
-    rw (e.1, e.2) (refused_stops holds bytes more m f refl (part_refused g.S.Sink s es bytes m f (c.in_err-keep_part.ensures.keeps s es holds)))
+    rw (e.1, e.2) (refused_stops holds bytes more m f refl (part_refused g.S.Sink s es c.args.self.now.part.items c.args.bytes.now m f some (c.in_err-keep_part.ensures.keeps s es holds)))
 
 pub take_line-requires-2-clause-whole : goal.take_line-requires-2-clause-whole
 take_line-requires-2-clause-whole g c =

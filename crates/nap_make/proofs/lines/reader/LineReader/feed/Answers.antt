@@ -1,4 +1,4 @@
-use Rattle.nap_make.proofs.{StopsLines, ValueLemmas.uncut, err_from_is_err_and, subst, sym, ◌++◌}
+use Rattle.nap_make.proofs.{All-append, StopsLines, ValueLemmas.uncut, err_from_is_err_and, subst, sym, ◌++◌, ◌≢◌}
 use Rattle.nap_make.proofs.FeedLemmas.{HasReadTo, ended_ready, next_parts, read_before, read_last, read_more, ready_last}
 use Rattle.nap_make.proofs.lines.reader.LineReader.feed.Goals as goal
 
@@ -34,9 +34,10 @@ keep_part-requires g c = (c.loop-next.invariant.ready, uncut 10 c.loop-next.rest
 pub returns-clause-ready : goal.returns-clause-ready
 returns-clause-ready g c =
     ready_last g.S.Sink c.keep_part.new.self c.loop-next.rest.now c.keep_part.result c.loop-next.invariant.ready (uncut 10 c.loop-next.rest.now c.in_default.ensures)
-    c.keep_part.ensures.part c.keep_part.ensures.maker c.keep_part.ensures.short
+    c.keep_part.ensures.part c.keep_part.ensures.maker c.keep_part.ensures.short c.keep_part.ensures.memory
 
 pub returns-clause-feeds : goal.returns-clause-feeds
 returns-clause-feeds g c s p has_read =
     read_last c.keep_part.new.self c.keep_part.result (c.loop-next.invariant.read s p has_read)
-    c.keep_part.ensures.part c.keep_part.ensures.maker c.keep_part.ensures.keeps
+    c.keep_part.ensures.part c.keep_part.ensures.maker
+    (All-append (λ b. b ≢ 10) c.loop-next.self.part.items c.loop-next.rest.now c.loop-next.invariant.ready.whole (uncut 10 c.loop-next.rest.now c.in_default.ensures)) c.keep_part.ensures.keeps
