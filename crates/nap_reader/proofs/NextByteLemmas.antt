@@ -314,5 +314,5 @@ none_left input piece none all =
 
 -- The open body has grown, or memory was lacking and it is unchanged.
 pub grown : {E : Type 0} (input : Input) (new : StoreState) (more : List ℕ) (r : Result (Unit {0}) E) → OnOk r (new ≡ store_grown input.store more) → OnErr r (new ≡ input.store) → input.store.stored + length input.store.body + length more ≤ store_limit →
-    FramesIn (length new.bytes) input.frames.stack.items × (input.turns + length (unread new.bytes input.frames.stack.items) ≡ input.fed + input.charged) × (new.stored + length new.body ≤ store_limit) × (length new.bytes ≤ new.stored + length new.body + input.charged) × (new.promise.charged ≤ vec_capacity input.frames.stack)
+    FramesIn (length new.bytes) input.frames.stack.items × (input.turns + length (unread new.bytes input.frames.stack.items) ≡ input.fed + input.charged) × (new.stored + length new.body ≤ store_limit) × (length new.bytes ≤ new.stored + length new.body + input.charged) × (new.promise.charged ≤ input.frames.stack.capacity)
 grown input new more r h k e = grind (arith, length-append, unread-store_grown, frames-store)

@@ -1,9 +1,11 @@
 //! The macro bodies that are being read.
-ghost use Rattle.std.specs.Prelude.{true, ℕ, List, ◌≡◌, ◌<◌, ◌≤◌, ◌+◌, ◌↔◌, [], ◌∷◌, ◌++◌, drop, length, vec_len, vec_capacity, MatchOption, OnOk, OnErr};
+ghost use Rattle.std.specs.Prelude.{true, ℕ, List, ◌≡◌, ◌<◌, ◌≤◌, ◌+◌, ◌↔◌, [], ◌∷◌, ◌++◌, drop, length, MatchOption, OnOk, OnErr};
+ghost use Rattle.smallvec.specs.SmallVec.{HasRoomFor};
 ghost use Rattle.nap_reader.specs.Framed.{FramesIn, Innermost, unread};
 ghost use Rattle.nap_reader.specs.Stream.{bytes_of};
 
 use crate::store::Span;
+use smallvec::SmallVec;
 use std::alloc::{AllocError, Global};
 
 /// A body that is being read: its unread bytes in the store, all of them with one place.
@@ -17,7 +19,7 @@ pub(crate) struct Frame {
 /// The bodies that are being read, the innermost last. Each has an unread byte.
 #[derive(Drop)]
 pub(crate) struct Frames {
-    stack: Vec<Frame>,
+    stack: SmallVec<Frame, 8>,
 }
 
 impl Frames {
@@ -26,14 +28,14 @@ impl Frames {
         ensures { result.stack.items ≡ [] }
     {
         Frames {
-            stack: Vec::new(alloc),
+            stack: SmallVec::new(alloc),
         }
     }
 
     /// Leaves no body, and keeps the memory.
     pub(crate) fn empty(&mut self)
         ensures items { self.new.stack.items ≡ [] }
-        ensures memory { vec_capacity self.new.stack ≡ vec_capacity self.old.stack }
+        ensures memory { self.new.stack.capacity ≡ self.old.stack.capacity }
     {
         self.stack.clear();
     }
@@ -42,9 +44,9 @@ impl Frames {
     #[inline(always)]
     pub(crate) fn reserve(&mut self, count: usize) -> Result<(), AllocError>
         ensures items { self.new.stack.items ≡ self.old.stack.items }
-        ensures ok { OnOk result (vec_len self.new.stack + count ≤ vec_capacity self.new.stack) }
-        ensures memory { vec_capacity self.old.stack ≤ vec_capacity self.new.stack }
-        ensures full { OnErr result (vec_capacity self.old.stack < length self.old.stack.items + count) }
+        ensures ok { OnOk result (HasRoomFor self.new.stack count) }
+        ensures memory { self.old.stack.capacity ≤ self.new.stack.capacity }
+        ensures full { OnErr result (self.old.stack.capacity < length self.old.stack.items + count) }
     {
         if count <= self.stack.capacity() - self.stack.len() {
             return Ok(());
@@ -55,9 +57,9 @@ impl Frames {
     /// Adds a part of the store as the innermost body, with this place. Memory for it has to be reserved.
     pub(crate) fn push_reserved(&mut self, span: Span, place: u64)
         requires some { span.start < span.end }
-        requires space { vec_len self.old.stack < vec_capacity self.old.stack }
+        requires space { HasRoomFor self.old.stack 1 }
         ensures items { self.new.stack.items ≡ self.old.stack.items ++ record { next = span.start; end = span.end; place = place } ∷ [] }
-        ensures memory { vec_capacity self.new.stack ≡ vec_capacity self.old.stack }
+        ensures memory { self.new.stack.capacity ≡ self.old.stack.capacity }
     {
         self.stack.push_reserved(Frame {
             next: span.start,
@@ -114,7 +116,7 @@ impl Frames {
         ensures given { ((before : List Frame) (frame : Frame) → self.old.stack.items ≡ before ++ frame ∷ [] → frame.next + count ≤ frame.end) →
             unread bytes.now self.new.stack.items ≡ drop count (unread bytes.now self.old.stack.items) }
         ensures within { FramesIn (length bytes.now) self.new.stack.items }
-        ensures memory { vec_capacity self.new.stack ≡ vec_capacity self.old.stack }
+        ensures memory { self.new.stack.capacity ≡ self.old.stack.capacity }
     {
         if self.stack.len() == 0 {
             return;

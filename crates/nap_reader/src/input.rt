@@ -39,7 +39,7 @@ pub(crate) struct Input {
     ghost counted: { fed ≤ turns },
     ghost few: { store.stored + length store.body ≤ store_limit },
     ghost paired: { length store.bytes ≤ store.stored + length store.body + charged },
-    ghost deep: { store.promise.charged ≤ vec_capacity frames.stack },
+    ghost deep: { store.promise.charged ≤ frames.stack.capacity },
 }
 
 impl Input {
