@@ -20,7 +20,9 @@ TEXT_BYTES, LEAST_PLAIN = rb"[\t\n\x0c\r\x20-\x7e\x80-\xff]*", 4
 LATIN_1 = rb"[\t-\r\x20-\x7e\xa0\xa1\xa3\xa7-\xab\xb0-\xb7\xb9-\xbf\xc0-\xff]*"
 OF_DOS = rb"[\t-\r\x20-\x7e\x80-\xa8\xad-\xaf\xb3\xba-\xbc\xbf-\xc0\xc4\xc8-\xc9\xcd\xd9-\xda\xe1\xf8]*"
 CODES = (("Latin-1", LATIN_1), ("a code page of DOS", OF_DOS))
-# How many bytes a sector of a disk may have.
+# The images of disks; and how many bytes a sector of one may have.
+DOS_DISK, AMIGA_DISK = "disk of DOS", "disk of an Amiga"
+DISKS = (DOS_DISK, AMIGA_DISK)
 SECTORS = (128, 256, 512, 1024, 2048, 4096)
 # In an accepted page they stand in the bodies of its macros alone.
 DEFINITION, BEGINNINGS = b"\x1b\x40", rb"\x1f|\x1b[\x22\x25]"
@@ -45,7 +47,7 @@ MAGIC = tuple(Magic(offset, data, name) for offset, data, name in (
     (0, b"\x0a\0\1", "PCX"), (0, b"\x0a\2\1", "PCX"), (0, b"\x0a\3\1", "PCX"), (0, b"\x0a\5\1", "PCX"),
     (0, b"MThd", "MIDI"), (0, b".snd", "AU"), (0, b"FORM", "IFF"), (0, b"Creative Voice File\x1a", "VOC"),
     (0, b"\0\0\2\0\4\4\6\0", "Lotus 1-2-3"), (0, b"\0\0\2\0\6\4\6\0", "Lotus 1-2-3"),
-    (0, b"\x31\xbe\0\0", "Word for DOS, or Write"), (0, b"\x32\xbe\0\0", "Write"), (0, b"DOS\0", "disk of an Amiga"),
+    (0, b"\x31\xbe\0\0", "Word for DOS, or Write"), (0, b"\x32\xbe\0\0", "Write"), (0, b"DOS\0", AMIGA_DISK),
     (257, b"ustar", "tar"), (0, b"%PDF-", "PDF"), (0, b"%!PS", "PostScript"), (0, b"{\\rtf", "RTF"),
     (0, b"\xd0\xcf\x11\xe0\xa1\xb1\x1a\xe1", "OLE (an older Office file)"), (0, b"\xffWPC", "WordPerfect"),
     (0, b"\0\5\x16\7", "AppleDouble"), (0, b"\0\5\x16\0", "AppleSingle"), (0, b"\0\0\0\1Bud1", ".DS_Store"),
@@ -75,9 +77,16 @@ def described(page: Page, answer: Answer) -> Description:
         return Description(kind((page.data,) if page.data is not None else _pieces(page.file), answer))
     if not isinstance(answer, Refusal):
         return Description()
+    look = looks_like(*_beginning(page))
+    pages = pages_of_capture(page.data, look) if page.data is not None else 0
+    return Description(CAPTURE if pages else None, look, pages or None)
+
+
+def pages_of_capture(data: bytes, look: Optional[str]) -> int:
+    """How many pages a capture has that looks so; 0 where the bytes are none. The image of a disk is none: its programs
+    have bytes that look like borders and pages."""
     from naplps.treating.borders import pages_in  # (which takes much more, and few need it)
-    pages = pages_in(page.data) if page.data is not None else 0
-    return Description(CAPTURE if pages else None, looks_like(*_beginning(page)), pages or None)
+    return 0 if look in DISKS else pages_in(data)
 
 
 def kind(pieces: Iterable[bytes], answer: Accepted) -> str:
@@ -98,7 +107,7 @@ def looks_like(beginning: bytes, length: int) -> Optional[str]:
     for magic in MAGIC if beginning.startswith(FRONTS) else BEHIND:
         if beginning.startswith(magic.data, magic.offset):
             return magic.name
-    for name, is_it in (("MacBinary", _is_mac_binary), ("ARC", _is_arc), ("disk of DOS", _is_dos_disk)):
+    for name, is_it in (("MacBinary", _is_mac_binary), ("ARC", _is_arc), (DOS_DISK, _is_dos_disk)):
         if is_it(beginning, length):
             return name
     return _text_in(beginning, length)

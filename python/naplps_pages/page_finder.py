@@ -32,10 +32,13 @@ REPEAT, MOST_DEFINED = b"\x1b\x46", 64
 BEGINNING = re.compile(rb"\x0c|\x0e[\x20-\x3f]|\x1b[\x40\x41\x43\x44]")
 OPERAND = re.compile(rb"[\x26-\x37][\x40-\x7f]")
 PRINTED = re.compile(rb"[\x21-\x7e]")
+WORDS = re.compile(rb"[\x40-\x7f]*")
 SHAPES = (b"POINT", b"LINE", b"ARC", b"RECT", b"POLY")
 # Faults of the meaning of codes, not of how they are spelled: from a later beginning there may be none.
 OF_MEANING = ("Outside", "PenUnknown", "NoAddress", "Missing", "ManyColours", "NothingToRepeat", "Stray", "ThreeD",
               "ShiftedCode", "Budget", "Store")
+# Faults that an opcode may have for lack of words.
+OF_FEW_WORDS = ("Missing", "Outside", "PenUnknown")
 
 
 class Asks(Protocol):
@@ -198,11 +201,13 @@ class PageFinder:
         """How many bytes the program reads from here; None where that can't be known."""
         length = min(FIRST_ASKED, end - start)
         while True:
-            answer = self._ask("check", held[start:start + length], base + end)
+            question = held[start:start + length]
+            answer = self._ask("check", question, base + end)
             if answer is None or isinstance(answer, Unanswered):
                 return None
-            if isinstance(answer, Refusal) and answer.place < length:
-                read = _end_of(held[start:start + length], answer)
+            lacks_words = start + length < end and _lacks_words(question, answer)
+            if isinstance(answer, Refusal) and answer.place < length and not lacks_words:
+                read = _end_of(question, answer)
                 return self._length_before_another(base, held, start, start + read, end) if (
                     answer.fault in OF_MEANING) else read
             if start + length == end:
@@ -210,11 +215,14 @@ class PageFinder:
             length = min(MORE * length, end - start)
 
     def _length_before_another(self, base: int, held: bytes, start: int, fault: int, end: int) -> int:
-        """How many bytes come before a page that begins anew, and reads on where this one comes to a fault."""
+        """How many bytes come before a page that begins anew, and reads on where this one comes to a fault.
+
+        That may take half of what the program is given. The rest is for this page, and for those after it.
+        """
         some = [found.start() for found in BEGINNING.finditer(held, max(start + 1, fault - MOST_ANEW), fault)]
         some = [begin for at, begin in enumerate(some) if at < MOST_BEGINNINGS or at + MOST_BEGINNINGS >= len(some)]
         for begin in some:
-            answer = self._ask("check", held[begin:min(end, fault + 2 * LEAST_LENGTH)], base + end)
+            answer = self._ask("check", held[begin:min(end, fault + 2 * LEAST_LENGTH)], (base + end) // 2)
             reached = begin + answer.place if isinstance(answer, Refusal) else begin
             if isinstance(answer, Accepted) or reached >= fault + LEAST_LENGTH:
                 return begin - start
@@ -233,6 +241,15 @@ class PageFinder:
             if asked == length:
                 return False
             asked = min(MORE * asked, length)
+
+
+def _lacks_words(question: bytes, answer: Answer) -> bool:
+    """Whether the words of the opcode that is refused reach up to the end of the question, so that more may follow.
+
+    Its place is that of the opcode, or of the macro call that it comes from.
+    """
+    return isinstance(answer, Refusal) and answer.fault in OF_FEW_WORDS and (
+        WORDS.fullmatch(question, answer.place + 1) is not None)
 
 
 def _is_of_meaning(data: bytes, code: PageCode) -> bool:

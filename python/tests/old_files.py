@@ -80,6 +80,12 @@ def dos_end(chance: Random, data: bytes, kind: int) -> bytes:
     return data + (b"\x1a", b"\x1a" * (rest + 1), b"\x1a" + chance.randbytes(rest), b"\r\n\x1a" + bytes(rest))[kind]
 
 
+def end_treatment(data: bytes, page: bytes) -> str:
+    """The treatment of what comes after the page: a guess where that isn't fill alone."""
+    rest = data[data.rindex(page) + len(page):] if page in data else b""
+    return "end" if rest.strip(b"\x1a\0\xe5\xf6\xff\r\n") else "tail"
+
+
 def respelled(chance: Random, page: bytes) -> bytes:
     """Another spelling of the page: with codes that do nothing."""
     return chance.choice((b"\0" + page, page.replace(b"\x0f", b"\x0f\0"), page + b"\x1b\x50", page + b"\0\0\0"))
@@ -123,6 +129,7 @@ def _finished(name: str, number: int, data: bytes, page: bytes, treatments: List
     """The file, with what its maker left in the page that it has to give back."""
     if name == "front":
         data = data + page
+    treatments = [end_treatment(data, page) if each == "tail" else each for each in treatments]
     page = {"lines": page + b"\r\n", "header": b"\x0c" + page, "three": b"\x0c" + page}.get(name, page)
     if name == "front" and b"\x1f" in data[:4]:
         page = b"\x0c" + page
@@ -166,7 +173,7 @@ def again(chance: Random, number: int, page: bytes) -> Old:
     name, data, *treatments = chance.choice((
         ("tape", with_parity(page), "parity"), ("disk", dos_end(chance, page, chance.randrange(3)), "tail"),
         ("art", sauce(page), "sauce"), ("wide", in_eight_bits(page), "eight-bit")))
-    return old("%s %d.nap" % (name, number), data, page, *treatments)
+    return _finished(name, number, data, page, treatments)
 
 
 def swallowed(chance: Random, number: int) -> Old:

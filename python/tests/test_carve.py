@@ -14,7 +14,7 @@ from random import Random
 
 import pytest
 
-from conftest import COMMAND, file
+from conftest import COMMAND, NOBODY, file
 from naplps.answers import Accepted
 from naplps.client import Client
 from naplps_pages.commands import carve
@@ -256,6 +256,70 @@ def test_a_search_that_is_stopped_goes_on(run, naplps, tmp_path):
     said = run(["carve", path, "--into", to])
     assert said.stdout.endswith(f"{path}: 4 pages found in {400 << 20} bytes\n".encode()) and said.returncode == 0
     assert said.stdout.count(b"accepted") < 4 and len(os.listdir(to)) == 8
+
+
+def state_of(naplps, path, at, found):
+    """A state of a search, as an earlier run leaves it, of a file that is there."""
+    with open(path, "rb") as source:
+        data = source.read()
+    line = subprocess.run([naplps, "--version"], stdout=subprocess.PIPE, check=True, text=True).stdout.strip()
+    terms = [hashlib.sha256(data).hexdigest(), len(data), 12, line]
+    return json.dumps({"what": carve.WHAT, "at": at, "found": found, "terms": terms}).encode("ascii")
+
+
+LAST = DISK.rindex(LOGO)
+
+
+@pytest.mark.parametrize("at", [len(DISK) + 1, 9_999_999, 10 ** 20, 10 ** 400, -1, True, 1.5, "7", None], ids=range(9))
+def test_a_search_does_not_continue_outside_of_its_file(run, naplps, tmp_path, at):
+    path, to = file(tmp_path, "disk.img", DISK), os.path.join(str(tmp_path), "to")
+    os.mkdir(to)
+    file(to, ".disk.img.carve.json", state_of(naplps, path, at, 7))
+    said = run(["carve", path, "--into", to])
+    assert (said.returncode, said.stderr) == (0, b"")
+    assert said.stdout.endswith(f"{path}: 2 pages found in {len(DISK)} bytes\n".encode())
+    assert sorted(os.listdir(to)) == sorted(
+        f"disk.img-{offset:010}.nap{ending}" for offset in (100_000, LAST) for ending in ("", ".json"))
+
+
+def test_a_search_that_continues_says_so_and_counts_the_pages_that_are_there(run, naplps, tmp_path):
+    path, to = file(tmp_path, "disk.img", DISK), os.path.join(str(tmp_path), "to")
+    os.mkdir(to)
+    for found in (0, 1):
+        file(to, ".disk.img.carve.json", state_of(naplps, path, 101_000, 7))
+        said = run(["carve", path, "--into", to])
+        assert said.returncode == 0 and said.stderr.decode() == (
+            f"naplps-pages: {path}: the search continues at byte 101000, where an earlier run stopped; pages found "
+            f"before: {found}\n")
+        pages = "2 pages" if found else "1 page"
+        assert said.stdout.endswith(f"{path}: {pages} found in {len(DISK)} bytes\n".encode())
+        assert len(os.listdir(to)) == 2 * (found + 1)
+        for ending in ("", ".json"):
+            file(to, "disk.img-0000100000.nap" + ending, LOGO)
+
+
+@pytest.mark.skipif(os.geteuid() != 0, reason="only root can be another user")
+def test_a_search_of_another_user_is_not_continued(run, naplps, tmp_path):
+    path, to = file(tmp_path, "disk.img", DISK), os.path.join(str(tmp_path), "to")
+    os.mkdir(to)
+    state = file(to, ".disk.img.carve.json", state_of(naplps, path, 101_000, 7))
+    os.chown(state, NOBODY, NOBODY)
+    said = run(["carve", path, "--into", to])
+    assert (said.returncode, said.stdout) == (3, b"") and said.stderr.decode() == (
+        f"naplps-pages: {state}: is another user's: move it away, and the search begins at the first byte\n")
+    assert os.listdir(to) == [".disk.img.carve.json"]
+
+
+def test_a_search_of_a_file_with_a_long_name_can_be_continued(run, naplps, tmp_path):
+    path, to = file(tmp_path, "n" * 235, DISK), os.path.join(str(tmp_path), "to")
+    full = carve.CarveState(os.path.join(to, carve.state_name("n" * 255)), "", [])
+    os.mkdir(to)
+    full.keep(7, 0)
+    name, = os.listdir(to)
+    assert len(name) <= 255 and name.endswith(".json") and name.startswith(".nnn")
+    os.unlink(os.path.join(to, name))
+    file(to, carve.state_name("n" * 235), state_of(naplps, path, 101_000, 7))
+    assert b"the search continues at byte 101000" in run(["carve", path, "--into", to]).stderr
 
 
 def test_a_refused_page_has_its_answer(program):

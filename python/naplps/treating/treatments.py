@@ -1,58 +1,17 @@
-"""The treatments, that of a SAUCE record among them, and the search for the least that makes refused bytes readable."""
+"""The treatments, and the search for the least that makes refused bytes readable."""
 import re
 from dataclasses import dataclass, field
 from itertools import islice
 from typing import Callable, Dict, Iterable, Iterator, List, NamedTuple, Optional, Set, Tuple
 
 from ..answers import Accepted, Answer, Refusal
-from ..names import shown
 from . import LEADING_ON, eight_bit
 from .borders import (
     BEGINS, CLEAR, END_OF_BODY, content, draws, is_read, is_uniform, outside, pieces, text_length, tokens,
 )
 from .changes import AROUND, EIGHTH, ODD, PLAIN, WITHIN, Change, Edit, NotSure, Treated, digest
-
-RECORD, LINE = 128, 64
-MARK, COMMENTS = b"SAUCE00", b"COMNT"
-# The fields that are told, by their offsets and lengths.
-FIELDS = {"title": (7, 35), "author": (42, 20), "group": (62, 20), "date": (82, 8)}
-NUMBER_OF_LINES = 104
-
-
-@dataclass(frozen=True)
-class Sauce:
-    """How many bytes at the end the record has, with its comments and the 1A before it; and what its fields say.
-
-    `texts` has the bytes of the fields and of the comments.
-    """
-
-    length: int
-    fields: Dict[str, str]
-    texts: Tuple[bytes, ...] = ()
-
-
-def find_sauce(data: bytes) -> Optional[Sauce]:
-    """The record at the end of a file, if there is one."""
-    record = data[-RECORD:]
-    if len(record) < RECORD or not record.startswith(MARK):
-        return None
-    length = RECORD
-    texts = tuple(record[at:at + size] for at, size in FIELDS.values())
-    lines = record[NUMBER_OF_LINES]
-    comments = length + len(COMMENTS) + LINE * lines
-    if lines and len(data) >= comments and data.startswith(COMMENTS, len(data) - comments):
-        length = comments
-        texts += (data[-comments + len(COMMENTS):-RECORD],)
-    if data[-length - 1:-length] == b"\x1a":
-        length += 1
-    fields = {name: _field_text(record[at:at + size]) for name, (at, size) in FIELDS.items()}
-    return Sauce(length, {name: text for name, text in fields.items() if text}, texts)
-
-
-def _field_text(field: bytes) -> str:
-    """What a field says, on one line."""
-    return shown(field.split(b"\0")[0].rstrip(b" ").decode("cp437"))
-
+from .grading import GUESSES, regrade
+from .sauce import find_sauce
 
 # How many bytes after a refusal may belong to a header, and how many starts of a page are tried among them.
 MOST_HEADER = 4096
@@ -149,6 +108,8 @@ def front(data: bytes, place: int) -> Iterator[Change]:
     NSR has a place after it, two bytes from 40 to 7F as APS has, where such bytes stand there. It is cut only where
     the page says itself where its text begins.
     """
+    if is_uniform(data):
+        return  # (parity bits and marks come off first: in odd parity NSR has none, and its place may have them)
     at = 0
     names: List[str] = []
     some = data[:MOST_FRONT]
@@ -270,6 +231,7 @@ TREATMENTS: Dict[str, Treatment] = {
     "tail": Treatment(AROUND, tail), "front": Treatment(AROUND, front), "header": Treatment(AROUND, header),
     "can": Treatment(WITHIN, can), "nsr": Treatment(WITHIN, nsr), "designations": Treatment(WITHIN, designations),
     "eight-bit": Treatment(WITHIN, seven_bit)}
+GRADES = {**{name: each.grade for name, each in TREATMENTS.items()}, **dict.fromkeys(GUESSES, WITHIN)}
 
 
 def untreated(source: bytes) -> Treated:
@@ -296,8 +258,7 @@ def treated(it: Treated, place: int, names: Tuple[str, ...] = tuple(TREATMENTS),
 
 def grade_of(names: str) -> str:
     """The grade of treatments that are joined by +."""
-    known = [TREATMENTS[name].grade for name in names.split("+") if name in TREATMENTS]
-    return WITHIN if WITHIN in known else AROUND
+    return WITHIN if any(GRADES.get(name) == WITHIN for name in names.split("+")) else AROUND
 
 
 def graded(names: str) -> str:
@@ -334,6 +295,11 @@ class Cure:
     def changes(self) -> Tuple[Change, ...]:
         """What the treatments did."""
         return self.treated.changes
+
+    @property
+    def is_cut(self) -> bool:
+        """Whether nothing within the page was taken or rewritten, as far as the treatments know its bounds."""
+        return all(each.grade == AROUND or each.treatment in GUESSES for each in self.changes)
 
 
 @dataclass
@@ -390,7 +356,7 @@ class TreatmentSearch:
         for each in some:
             answer = self._answer(each)
             if isinstance(answer, Accepted) and _is_enough(each, answer) and not self._takes_a_page(each):
-                return Cure(each, answer.entries), refused
+                return Cure(regrade(each), answer.entries), refused
             if isinstance(answer, Refusal):
                 refused.append((each, answer.place))
         return None, refused

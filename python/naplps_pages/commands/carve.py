@@ -6,7 +6,7 @@ import os
 import sys
 import time
 from contextlib import suppress
-from typing import IO, TYPE_CHECKING, List, Optional, Tuple
+from typing import IO, TYPE_CHECKING, List, Optional
 
 from naplps.names import shown
 
@@ -76,7 +76,7 @@ class _Carving:
     def run(self) -> None:
         """Reads the source once for its hash, and once for its pages."""
         from naplps.client import version
-        from ..notes import carve_source
+        from ..notes import carve_source, carved_before
         from ..page_finder import PageFinder
         marks = self._marks()
         sha256 = self._hash()
@@ -88,8 +88,11 @@ class _Carving:
             self.stem = session.path_for(self.page.name)
             folder, name = os.path.split(self.stem)
             terms = [sha256, self.length, session.least, version(session.program.path, session.program.limits)]
-            self.state = CarveState(os.path.join(folder, f".{name}.carve.json"), shown(self.page.name), terms)
-            begin, self.found = self.state.load()
+            self.state = CarveState(os.path.join(folder, state_name(name)), shown(self.page.name), terms)
+            begin = self.state.load(self.length)
+            self.found = carved_before(self.stem, begin)
+        if begin:
+            tell(f"{shown(self.page.name)}: {messages.CARVES_ON.format(at=begin, number=self.found)}")
         finder = PageFinder(session.program, session.least, self._beat)
         source = carve_source(self.page.name, self.length, sha256)
         try:
@@ -190,6 +193,12 @@ class _Carving:
             raise
 
 
+def state_name(name: str) -> str:
+    """The name of the file that has how far the search of a file of this name is."""
+    from ..free_names import MOST_NAME, shortened
+    return shortened(f".{name}.carve.json", MOST_NAME)
+
+
 class CarveState:
     """The file that has how far the search of one source is, by its hash and length, what was asked for, and by which
     program."""
@@ -197,20 +206,21 @@ class CarveState:
     def __init__(self, path: str, source: str, terms: List[object]) -> None:
         self.path, self.source, self.terms = path, source, terms
 
-    def load(self) -> Tuple[int, int]:
-        """Where the search goes on, and how many pages were found before. Raises NotWritten where a foreign file is."""
+    def load(self, length: int) -> int:
+        """Where the search of so many bytes goes on. Raises NotWritten where a foreign file is."""
         from ..notes import read_note
         if not os.path.lexists(self.path):
-            return 0, 0
+            return 0
         try:
-            held = read_note(self.path, MOST_LENGTH)
-            if held["what"] != WHAT:
+            if os.lstat(self.path).st_uid != os.geteuid():
+                raise NotWritten(self.path, messages.STATE_OF_OTHER)
+            members = read_note(self.path, MOST_LENGTH)
+            if members["what"] != WHAT:
                 raise ValueError
         except (OSError, ValueError, KeyError, TypeError, RecursionError):
             raise NotWritten(self.path, messages.FOREIGN_STATE) from None
-        at, found = held.get("at"), held.get("found")
-        is_mine = held.get("terms") == self.terms and all(type(each) is int and each >= 0 for each in (at, found))
-        return (at, found) if is_mine else (0, 0)
+        at = members.get("at")
+        return at if members.get("terms") == self.terms and type(at) is int and 0 <= at <= length else 0
 
     def keep(self, at: int, found: int) -> None:
         """Keeps how far the search is. Where that can't be written, it goes on from before."""

@@ -68,8 +68,9 @@ def _report(session: Session, page: Page, answer: Answer, cure: Optional[Cure], 
 
 def _capture_lines(page: Page) -> List[str]:
     """What is printed of a capture."""
-    from naplps.treating.borders import pages_in
-    pages = pages_in(page.data) if page.data is not None else 0
+    from ..file_kinds import MOST_LOOKED_AT, looks_like, pages_of_capture
+    data = page.data or b""
+    pages = pages_of_capture(data, looks_like(data[:MOST_LOOKED_AT], len(data)))
     if not pages:
         return []
     return [f"it is a capture of {pages} pages, which this cuts apart: {TOOL} split {quoted(page.name)} --into pages"]
@@ -90,11 +91,12 @@ def _treatment_lines(page: Page, cure: Cure) -> List[str]:
 def _write(session: Session, page: Page, answer: Refusal, cure: Cure) -> None:
     """Writes the treated copy, and before it, beside it, where it comes from."""
     from naplps.client import version
-    from ..notes import put_treated, treated_note, treatment_members
-    path = session.path_for(page.name)
+    from ..notes import paths_with_notes, put_treated, treated_note, treatment_members
+    path = session.path_for(page.name, making=lambda path: paths_with_notes([path]))
     treatment: Members = {**treatment_members(page.data or b"", cure),
                           "program": version(session.program.path, session.program.limits)}
-    put_treated(path, cure.treated.data, treated_note(page.name, answer, treatment, session.program.budget))
+    note = treated_note(page.name, answer, treatment, session.program.budget)
+    put_treated(path, cure.treated.data, {**note, **session.path_members(path)})
     if not session.json:
         session.output.line(f"{session.front(page.name)}written: {shown(path)}, and {shown(path + '.json')}")
 
