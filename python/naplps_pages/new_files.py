@@ -2,7 +2,7 @@
 import contextlib
 import errno
 import os
-from typing import Dict, Iterable, Iterator, Optional
+from typing import Dict, Iterable, Iterator, Optional, Tuple
 
 from naplps.names import leaf
 
@@ -64,18 +64,23 @@ def _claim(path: str, data: bytes) -> None:
 
 def _part(path: str, data: bytes) -> str:
     """A new file with these bytes, which are on the disk, in the folder of the path."""
-    import tempfile  # (which takes long to be imported, and is needed here alone)
-    number, part = tempfile.mkstemp(prefix=".naplps-", dir=os.path.dirname(path) or ".")
+    number, part = new_part(os.path.dirname(path) or ".")
     try:
         with open(number, "wb") as file:
             file.write(data)
             file.flush()
             os.fsync(number)  # (so that a power cut leaves no name of a file without its bytes)
-        os.chmod(part, 0o666 & ~_mask())
+            os.fchmod(number, 0o666 & ~_mask())  # (by its path it could be another file by now)
     except BaseException:
         os.unlink(part)
         raise
     return part
+
+
+def new_part(folder: str) -> Tuple[int, str]:
+    """A new empty file in a folder, under a name that nothing had, which its owner alone can read. Raises OSError."""
+    import tempfile  # (which takes long to be imported, and is needed here alone)
+    return tempfile.mkstemp(prefix=".naplps-", dir=folder)
 
 
 def _mask() -> int:

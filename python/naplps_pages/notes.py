@@ -6,7 +6,7 @@ import hashlib
 import json
 import os
 import stat
-from typing import Any, NamedTuple
+from typing import Any, Iterable, List, NamedTuple
 
 from naplps.answers import Accepted, Answer, Refusal
 from naplps.names import Members, as_json
@@ -19,7 +19,8 @@ from . import TOOL, file_kinds
 from .new_files import put_inside, require_free
 from .page_finder import CarvedPage
 
-NOTE = b".json"
+NOTE_ENDING = ".json"
+NOTE = NOTE_ENDING.encode("ascii")
 # How each note begins: `cures` and `split` tell first where their file comes from.
 BEGINS = b'{\n  "source_name": "'
 WRITTEN_BY = b'\n  "tool": "%s ' % TOOL.encode("ascii")
@@ -41,7 +42,7 @@ def treatment_members(source: bytes, cure: Cure) -> Members:
     """What JSON tells of a treated copy of these bytes."""
     return {"treatments": [change_members(*step) for step in cure.treated.steps()],
             "grade": WITHIN if cure.treated.is_guess else AROUND, "entries": cure.entries,
-            "source": _size_and_hash(source), "copy": _size_and_hash(cure.treated.data)}
+            "source": size_and_hash(source), "copy": size_and_hash(cure.treated.data)}
 
 
 def change_members(change: Change, data: bytes) -> Members:
@@ -59,7 +60,18 @@ def warning(cure: Cure) -> str:
     return GUESS + WARNING if cure.treated.is_guess else WARNING
 
 
-def _size_and_hash(data: bytes) -> Members:
+def paths_with_notes(paths: Iterable[str]) -> List[str]:
+    """The paths of files and of their notes."""
+    return [each for path in paths for each in (path, path + NOTE_ENDING)]
+
+
+def path_members(path: str, is_usual: bool = False) -> Members:
+    """What a note tells of the path of its file, where that isn't the usual one."""
+    return {} if is_usual else {key.replace("name", "path"): value for key, value in as_json(path).items()}
+
+
+def size_and_hash(data: bytes) -> Members:
+    """How a note tells of some bytes."""
     return {"bytes": len(data), "sha256": hashlib.sha256(data).hexdigest()}
 
 
@@ -130,7 +142,7 @@ class CutPart(NamedTuple):
 
 def capture_source(name: str, data: bytes, parts: int, program: str) -> Members:
     """What the notes on all parts of a capture tell."""
-    return {**_source_name(name), "source": _size_and_hash(data), "pages": parts, "program": program,
+    return {**_source_name(name), "source": size_and_hash(data), "pages": parts, "program": program,
             "tool": f"{TOOL} {VERSION}"}
 
 
@@ -138,6 +150,11 @@ def part_path(capture: str, number: int, parts: int) -> str:
     """The path of a part beside the path that is made of its capture's name."""
     stem, ending = os.path.splitext(capture)
     return "%s-%0*d%s" % (stem, max(3, len(str(parts))), number, ending or ".nap")
+
+
+def part_paths(capture: str, parts: int) -> List[str]:
+    """The paths of all parts."""
+    return [part_path(capture, number, parts) for number in range(1, parts + 1)]
 
 
 def put_part(path: str, part: CutPart, note: Members) -> None:
@@ -150,7 +167,7 @@ def put_part(path: str, part: CutPart, note: Members) -> None:
 def part_note(source: Members, number: int, part: CutPart) -> Members:
     """Where a part comes from, and what stands before it in the capture, or after the last one."""
     return {**source, "page": number, "offset": part.piece.offset, "cut_at": part.piece.cut_at,
-            "before": part.before.hex(), "after": part.after.hex(), "copy": _size_and_hash(part.data)}
+            "before": part.before.hex(), "after": part.after.hex(), "copy": size_and_hash(part.data)}
 
 
 # The digits of an offset in a name.
@@ -167,10 +184,22 @@ def carved_path(stem: str, offset: int) -> str:
     return "%s-%0*d.nap" % (stem, LEAST_DIGITS, offset)
 
 
+def carved_before(stem: str, end: int) -> int:
+    """How many pages that begin before an offset are there already, each with its note."""
+    folder, name = os.path.split(stem)
+    try:
+        names = set(os.listdir(folder or os.curdir))
+    except OSError:
+        return 0
+    offsets = (each[len(name) + 1:-len(".nap")] for each in names
+               if each.startswith(name + "-") and each.endswith(".nap") and each + NOTE_ENDING in names)
+    return sum(int(each) < end for each in offsets if len(each) >= LEAST_DIGITS and each.isdigit() and each.isascii())
+
+
 def carved_note(source: Members, found: CarvedPage, least: int, program: str) -> Members:
     """What the note on a page tells."""
     return {**source, **carved_places(found), "answer": answer_line(found), "least": least, "program": program,
-            "tool": f"{TOOL} {VERSION}", "copy": _size_and_hash(found.data)}
+            "tool": f"{TOOL} {VERSION}", "copy": size_and_hash(found.data)}
 
 
 def answer_line(found: CarvedPage) -> str:

@@ -8,6 +8,7 @@ import sys
 from random import Random
 
 from boxes import box
+from floppies import floppy
 from naplps.client import Client
 from packers import pack
 from planted import files, pool, rest
@@ -43,6 +44,8 @@ def mixed(count, seed, program):
         folder = chance.choice(FOLDERS)
         made[os.path.join(folder, b"%s%05d.%s" % (chance.choice((b"PAGE", b"p\xe2que", b"old ")), number,
                                                   chance.choice((b"nap", b"NAP", b"cap", b"dat"))))] = data
+    made[b"disk 1/FLOPPY.IMG"] = floppy({"A.NAP": pages[1], "B.NAP": pages[2]}, "160K")
+    made[b"disk 2/LOGO.GIF"] = b"GIF89a" + bytes(90) + pages[3] + b"\xff" * 90
     return made
 
 

@@ -19,7 +19,9 @@ from random import Random
 import pytest
 
 from conftest import COMMAND, file
+from forked import forked
 from mixed_box import write
+from naplps_pages.box import making
 from reports import held
 from samples import POINT, SPELLED, has
 from scans import every_table, start, tree, wait_until
@@ -46,7 +48,6 @@ for line in iter(sys.stdin.buffer.readline, b""):
 # The files of a box, and those that are the same bytes whenever it is made.
 FILES = {"box.db", "box.json", "pages.db", "index.html", "files.csv", "cut.csv"}
 FOLDERS = ("canonical", "readable", "captures", "carved")
-UNKNOWN = ("kind", "looks_like", "treated_hash")
 
 
 @pytest.fixture(scope="module")
@@ -88,6 +89,11 @@ def files_in(folder):
     return found
 
 
+def notes_in(folder):
+    """The notes below a folder."""
+    return [json.loads(data) for name, data in files_in(folder).items() if name.endswith(b".json")]
+
+
 def without_dates(report):
     """A report without the time of its scan."""
     return re.sub(rb"<time>[^<]*</time>", b"", report)
@@ -119,10 +125,12 @@ def separately(run, folder, into):
     ran("canon", store, "--into", os.path.join(into, "canonical"), statuses=(0,))
     ran("cures", store, "--into", os.path.join(into, "readable"))
     ran("split", store, "--into", os.path.join(into, "captures"))
-    some = map(json.loads, ran("files", store, "--json", "--refused").splitlines())
-    unknown = [os.fsdecode(bytes.fromhex(it["name_hex"])) if "name_hex" in it else it["name"] for it in some
-               if all(it[name] is None for name in UNKNOWN)]
-    ran("carve", *unknown, "--into", os.path.join(into, "carved"))
+    some = list(map(json.loads, ran("files", store, "--json", "--refused").splitlines()))
+    captures = {note["source"]["sha256"] for note in notes_in(os.path.join(into, "captures"))}
+    names = [os.fsdecode(bytes.fromhex(it["name_hex"])) if "name_hex" in it else it["name"] for it in some
+             if it["treated_hash"] is None and it["hash"] not in captures]
+    assert any(it["looks_like"] == "disk of DOS" for it in some)
+    ran("carve", *names, "--into", os.path.join(into, "carved"))
     ran("report", store, "-o", os.path.join(into, "index.html"), statuses=(0,))
 
 
@@ -135,7 +143,9 @@ def test_it_makes_what_the_single_commands_make(run, mixed, place, tmp_path):
         assert len(one) > 5 and set(one) == set(other), folder
         assert one == other, folder
     one, other = files_in(tmp_path), files_in(made)
-    assert one[b"files.csv"] == other[b"files.csv"]
+    rows = rows_of(other[b"files.csv"])
+    assert [row.pop("readable") != "" for row in rows] == [row["treated_hash"] != "" for row in rows]
+    assert rows_of(one[b"files.csv"]) == rows
     assert without_dates(one[b"index.html"]) == without_dates(other[b"index.html"])
     tables = [every_table(os.path.join(str(each), "box.db")) for each in (tmp_path, made)]
     for each in tables:
@@ -414,16 +424,37 @@ def test_pages_are_found_in_a_file_too_long_for_a_page(run, tmp_path):
     tree(disks, {"disk.img": data, "film.img": b"\xff\xd8\xff" + data})
     ran = run(["box", str(disks), "--into", str(place)])
     assert ran.returncode in (0, 1), ran
-    row, = rows_of((place / "cut.csv").read_bytes())
+    row, film = rows_of((place / "cut.csv").read_bytes())
     assert (row["source"], row["how"]) == (f"{disks}/disk.img", "carve")
+    assert (film["source"], int(film["offset"])) == (f"{disks}/film.img", at + 3)
     made = place / "carved" / f"disk.img-{int(row['offset']):010}.nap"
     cut = made.read_bytes()
     assert cut == data[int(row["offset"]):int(row["offset"]) + int(row["bytes"])] and int(row["offset"]) == at
     note = json.loads((place / "carved" / f"{made.name}.json").read_bytes())
     assert note["source"] == {"bytes": len(data), "sha256": hashlib.sha256(data).hexdigest()}
-    assert "carved:          1 page out of 1 file, in carved" in ran.stdout.decode()
+    assert "carved:          2 pages out of 2 files, in carved" in ran.stdout.decode()
     again = run(["box", str(disks), "--into", str(place)])
     assert (again.stdout, again.returncode) == (ran.stdout, ran.returncode)
+
+
+def test_a_long_file_outside_of_the_folders_is_not_read(naplps, tmp_path, monkeypatch):
+    """Where a folder above it becomes a link after the scan, to one with a file of the same name, length and time."""
+    data = Random(3).randbytes(1 << 20) * 17
+    tree(tmp_path, {"disks/top/disk.img": data + bytes(2000),
+                    "outside/disk.img": data + logo() + bytes(2000 - len(logo()))})
+    for name in ("disks/top/disk.img", "outside/disk.img"):
+        os.utime(str(tmp_path / name), (1e9, 1e9))
+    carve = making.carve_long
+
+    def exchanged(*given):
+        os.rename(str(tmp_path / "disks" / "top"), str(tmp_path / "disks" / "moved"))
+        os.symlink("../outside", str(tmp_path / "disks" / "top"))
+        return carve(*given)
+    monkeypatch.setattr(making, "carve_long", exchanged)
+    said = forked(["box", "disks", "--into", "box"], str(tmp_path), naplps)
+    path = tmp_path / "disks" / "top" / "disk.img"
+    assert (said.status, said.err.decode()) == (1, f"naplps-pages: {path}: Not a directory\n")
+    assert not (tmp_path / "box" / "carved").exists() or not os.listdir(str(tmp_path / "box" / "carved"))
 
 
 def image():

@@ -15,11 +15,11 @@ from naplps.treating.borders import pieces
 from naplps.treating.changes import digest
 from naplps.treating.treatments import Cure
 
-from .. import file_kinds, messages
+from .. import messages
 from ..collection import tables
 from ..collection.every_file import FileFacts
 from ..collection.file_reader import FLAGS, Seen, change, marks
-from ..collection.folders import opened, reason
+from ..collection.folders import OpenFolders, reason, root_length
 from ..collection.progress import Progress
 from ..collection.protocol import BlockMaker, Piece, WorkerOptions, serve
 from ..collection.tables import Answered, Cured
@@ -98,6 +98,10 @@ class BoxWorker(Worker):
         claimed = self.claims.taken(list(some)) if self.claims and some else some
         return {own: data for own, data in some.items() if own in claimed}
 
+    def tries_treatments(self, is_so: bool) -> None:
+        """Sets whether it makes treated copies."""
+        self.options = self.options._replace(retry=self.options.retry._replace(cures=is_so))
+
     def answered(self, window: List[Seen]) -> Piece:
         """The rows of files that were read."""
         return self._answered(window)
@@ -132,12 +136,11 @@ class BoxWorker(Worker):
             kept = kept._replace(data=data, parts=self._parts(data))
         if self.cure:
             copy = self.cure.data
-            return kept._replace(cure=treatment_members(data, self.cure), copy=copy,
+            kept = kept._replace(cure=treatment_members(data, self.cure), copy=copy,
                                  copied=self._places(copy, self.cure.entries))
-        kept = kept._replace(places=self._places(data))
-        if self.carves and answered.kind is None and not answered.looks_like:
-            return self._carved(kept, data)
-        return kept
+        else:
+            kept = kept._replace(places=self._places(data))
+        return self._carved(kept, data) if self.carves and kept.is_searched(answered.looks_like) else kept
 
     def _places(self, data: bytes, entries: Optional[int] = None) -> Optional[bytes]:
         """The body of `places` for a page, where it isn't too much."""
@@ -154,7 +157,7 @@ class BoxWorker(Worker):
                 for each, it in zip(some, parts)] if has_a_page(self._ask, parts) else []
 
     def _carved(self, kept: KeptPage, data: bytes) -> KeptPage:
-        """What is kept of a file of no known kind, with the pages inside it."""
+        """What is kept of a refused file, with the pages inside it."""
         found = all_pages(self.once, data)
         return kept._replace(carved=[part_of(each) for each in found], cut=b"".join(each.data for each in found))
 
@@ -195,16 +198,14 @@ def key_of_long(file: FileFacts) -> bytes:
     return hashlib.sha256(b"long file: " + text.encode("ascii")).digest()
 
 
-def carve_long(file: FileFacts, program: Client) -> KeptPage:
-    """What is kept of a file: its hash in place of its bytes, and the pages inside it; none where it is of a kind that
-    is known. Raises NotCarved.
+def carve_long(file: FileFacts, roots: Sequence[bytes], program: Client) -> KeptPage:
+    """What is kept of a file in these folders: its hash in place of its bytes, and the pages inside it. Raises
+    NotCarved.
     """
     try:
-        at = opened(file.folder, follow=True)
-        try:
+        with OpenFolders() as folders:
+            at = folders.opened(file.folder, root_length(file.folder, roots))
             descriptor = os.open(file.name, FLAGS, dir_fd=at)
-        finally:
-            os.close(at)
         with open(descriptor, "rb", buffering=0) as source:
             before = os.fstat(descriptor)
             if (file.size, file.mtime_ns) != marks(before)[:2]:
@@ -220,15 +221,10 @@ def carve_long(file: FileFacts, program: Client) -> KeptPage:
 def _searched(source: IO[bytes], length: int, program: Client, name: str) -> KeptPage:
     """Reads a file, piece by piece."""
     hashed = hashlib.sha256()
-    first = source.read(file_kinds.MOST_LOOKED_AT)
-    if file_kinds.looks_like(first, length):
-        return KeptPage(carved=[], cut=b"")
     progress = Progress(sys.stderr, lambda: length >> 20, what=f"MiB of {shown(name)}")
-    left: Optional[bytes] = first
 
     def read(number: int) -> bytes:
-        nonlocal left
-        piece, left = left if left else source.read(number), None
+        piece = source.read(number)
         hashed.update(piece)
         return piece
 

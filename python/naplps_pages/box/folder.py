@@ -4,6 +4,7 @@ the places where files of a box stand.
 import os
 import re
 import stat
+from contextlib import suppress
 from types import TracebackType
 from typing import Iterator, List, Optional, Type
 
@@ -27,8 +28,7 @@ LOCKED = "box"
 LOCK = LOCKED + ".lock"
 WHAT = f"a box: what {TOOL} found in these folders; the same command goes on in it"
 MOST_MARKER = 1 << 20
-# That of which worker asks about which page; and files that aren't whole, of a run that was killed.
-CLAIMS = ".naplps-claiming"
+# Files that aren't whole, and that of which worker asks about which page, of a run that was killed.
 UNFINISHED = re.compile(r"\.naplps-[a-z0-9_]{8}")
 
 
@@ -124,7 +124,8 @@ class BoxFolder:
                 with os.scandir(folder) as entries:
                     for entry in entries:
                         if UNFINISHED.fullmatch(entry.name) and entry.is_file(follow_symlinks=False):
-                            os.unlink(entry.path)
+                            with suppress(PermissionError):
+                                os.unlink(entry.path)
             except OSError as error:
                 raise NotWritten(folder, reason(error)) from None
 

@@ -1,14 +1,21 @@
 """What a box keeps of each page, in a SQLite file that is written before the store; and which worker asks about it."""
 import json
+import os
 import sqlite3
 import zlib
 from typing import Iterable, List, NamedTuple, Optional, Sequence, Set, Tuple
 
+from naplps.answers import Nonsense, read_line
 from naplps.names import Members
 
 from .. import messages
-from ..collection.tables import CanonValues
+from ..collection.folders import reason
 from ..collection.store import StoreFailed, address
+from ..collection.store_files import foreign
+from ..collection.tables import CanonValues
+from ..console import NotWritten
+from ..file_kinds import DISKS
+from ..new_files import new_part
 
 MADE = "CREATE TABLE claims(own BLOB PRIMARY KEY) WITHOUT ROWID"
 CLAIM = "INSERT OR IGNORE INTO claims(own) VALUES(?)"
@@ -19,9 +26,10 @@ FAST = "PRAGMA synchronous = OFF; PRAGMA journal_mode = MEMORY;"
 class Claims:
     """A file that all workers of a run write. Where it can't be written, each asks about what it meets."""
 
-    def __init__(self, path: str, is_new: bool = False) -> None:
-        self.connection = sqlite3.connect(path, timeout=60, isolation_level=None)
-        self.connection.executescript(FAST + (MADE if is_new else ""))
+    def __init__(self, path: str, more: str = "") -> None:
+        """Opens the file, which has to be there. Raises sqlite3.Error."""
+        self.connection = sqlite3.connect(address(path, "rw"), uri=True, timeout=60, isolation_level=None)
+        self.connection.executescript(FAST + more)
 
     def taken(self, hashes: List[bytes]) -> Set[bytes]:
         """Those of the hashes that nobody claimed before."""
@@ -33,6 +41,17 @@ class Claims:
             return claimed
         except sqlite3.Error:
             return set(hashes)
+
+
+def made_claims(folder: str) -> str:
+    """The path of such a file, made in a folder under a name that nothing has. Raises NotWritten or sqlite3.Error."""
+    try:
+        number, path = new_part(folder)
+    except OSError as error:
+        raise NotWritten(folder, reason(error)) from None
+    os.close(number)
+    Claims(path, MADE).connection.close()
+    return path
 
 
 # "npbx", by which the file is known again, and its form.
@@ -79,6 +98,11 @@ class KeptPage(NamedTuple):
     carved: Optional[List[KeptPart]] = None
     cut: Optional[bytes] = None
 
+    def is_searched(self, looks_like: Optional[str]) -> bool:
+        """Whether pages are looked for inside a refused file: in what isn't cut into parts and has no readable copy,
+        and in each disk."""
+        return looks_like in DISKS or not (self.parts or self.copy)
+
     @property
     def values(self) -> CanonValues:
         """This as a worker sends it, and as it stands in the file."""
@@ -105,9 +129,42 @@ def _unpacked(data: Optional[bytes]) -> Optional[bytes]:
 
 
 def _parts(text: Optional[str]) -> Optional[List[KeptPart]]:
-    return None if text is None else [
-        KeptPart(offset, length, (more[0], more[1]), cut_at, line, why)
-        for offset, length, more, cut_at, line, why in json.loads(text)]
+    return None if text is None else [_part(*row) for row in json.loads(text)]
+
+
+def _part(offset: object, length: object, more: object, cut_at: object, line: object, why: object) -> KeptPart:
+    """A part, of values that may be any of JSON. Raises ValueError or Nonsense where they aren't those of a part."""
+    before, after = more if isinstance(more, list) else ()
+    numbers = [number for number in (offset, length, before, after) if type(number) is int and number >= 0]
+    words = [word for word in (cut_at, line, why) if isinstance(word, str)]
+    if len(numbers) < 4 or len(words) < 3:
+        raise ValueError
+    part = KeptPart(numbers[0], numbers[1], (numbers[2], numbers[3]), *words)
+    if part.line:
+        read_line(part.line.encode("ascii"), part.length)
+    return part
+
+
+def _cure(text: Optional[str]) -> Optional[Members]:
+    cure = None if text is None else json.loads(text)
+    if cure is not None and (not isinstance(cure, dict) or type(cure.get("entries")) is not int):
+        raise ValueError
+    return cure
+
+
+def _require_own(path: str, is_new: bool) -> None:
+    """Raises StoreFailed where SQLite would act on a foreign file beside that at this path.
+
+    Where nothing is there and it may be made, an empty file is, which its owner alone can read.
+    """
+    try:
+        why = foreign(path)
+        if is_new and not why and not os.path.lexists(path):
+            os.close(os.open(path, os.O_RDWR | os.O_CREAT | os.O_EXCL | os.O_NOFOLLOW | os.O_CLOEXEC, 0o600))
+    except OSError as error:
+        why = reason(error)
+    if why:
+        raise StoreFailed(path, why)
 
 
 class KeptPages:
@@ -115,14 +172,14 @@ class KeptPages:
 
     module = "naplps_pages.box.box_worker"
 
-    def __init__(self, path: str, carves: bool = False, claims: str = "", is_new: bool = False) -> None:
+    def __init__(self, path: str, carves: bool = False, is_new: bool = False) -> None:
         """Opens it, and makes it where it isn't there and may be made. Raises StoreFailed or sqlite3.Error."""
         self.path = path
-        self.first: Tuple[object, ...] = (carves, claims)
+        self.first: Tuple[object, ...] = (carves, "")
         self.anew: Tuple[object, ...] = (carves, "")
         self.rows: List[Tuple[bytes, CanonValues]] = []
-        name = address(path, "rwc" if is_new else "rw")
-        self.connection = sqlite3.connect(name, uri=True, timeout=60, isolation_level=None)
+        _require_own(path, is_new)
+        self.connection = sqlite3.connect(address(path, "rw"), uri=True, timeout=60, isolation_level=None)
         try:
             self._look(is_new)
         except sqlite3.DatabaseError as error:
@@ -144,6 +201,10 @@ class KeptPages:
         some = [sql for sql, in ask("SELECT sql FROM sqlite_master WHERE sql IS NOT NULL")]
         if known != [APPLICATION, FORM] or some != [*TABLES]:
             raise StoreFailed(self.path, messages.NO_PAGES_OF_BOX)
+
+    def share(self, claims: str) -> None:
+        """Gives the workers of the scan the file in which each claims pages."""
+        self.first = (self.first[0], claims)
 
     def take(self, values: Sequence[Tuple[bytes, CanonValues]]) -> None:
         """Takes what workers found, by the hashes of pages."""
@@ -170,9 +231,9 @@ class KeptPages:
         data, places, canon, cure, copy, copied, parts, carved, cut = row
         try:
             return KeptPage(_unpacked(data), _unpacked(places), _unpacked(canon),
-                            None if cure is None else json.loads(cure), _unpacked(copy), _unpacked(copied),
+                            _cure(cure), _unpacked(copy), _unpacked(copied),
                             _parts(parts), _parts(carved), _unpacked(cut))
-        except (ValueError, TypeError, IndexError, zlib.error, RecursionError):
+        except (ValueError, TypeError, Nonsense, zlib.error, RecursionError):
             raise StoreFailed(self.path, messages.PAGE_OF_BOX_UNREADABLE.format(sha256=own.hex())) from None
 
     def close(self) -> None:

@@ -2,10 +2,12 @@
 is replaced where it is as that left it; what somebody changed stays, and is reported.
 """
 import argparse
+import errno
 import gc
 import hashlib
 import io
 import os
+import secrets
 import sqlite3
 import stat
 import sys
@@ -28,28 +30,35 @@ from ..collection.file_reader import Otherwise, Seen, read
 from ..collection.folders import absolute, reason
 from ..collection.kept import refused_by
 from ..collection.pool import processors
-from ..collection.printing import Printer, numbered
+from ..collection.printing import Printer, numbered, shown_as
 from ..collection.protocol import Retry, WorkerOptions, block_of
 from ..collection.scan import ScanOptions, ScanRun, missing, scanned
-from ..collection.tables import File
+from ..collection.tables import Count, File, Text, checked
 from ..collection.search import apart
 from ..collection.session import Names
 from ..collection.status import SHUT, UNKNOWN, WORDS, Status, status
-from ..collection.store import open_to_read
-from ..console import COMPLETE, SOME_LACK, NotWritten, Output, tell
+from ..collection.store import StoreFailed, open_to_read
+from ..console import COMPLETE, SOME_LACK, NotWritten, Output, tell, tell_of
+from ..free_names import FreeNames, folds_case
 from ..new_files import make_folders, put_inside, replace
 from ..packs import pack_of
 from ..page_finder import LEAST_ENTRIES, CarvedPage
 from ..report import USUAL_SKETCHES
 from ..report.facts import load_groups
-from ..report.making import ReportOptions, make
+from ..report.making import ReportOptions, TooLarge, make
 from ..report.sketch_workers import OBJECTS
 from .box_worker import BoxWorker, NotCarved, carve_long, key_of_long
-from .folder import CANONICAL, CAPTURES, CARVED, CLAIMS, CUT, KEPT, READABLE, REPORT, STORE, TABLE, BoxFolder
-from .kept_pages import Claims, KeptPage, KeptPages, KeptPart
+from .folder import CANONICAL, CAPTURES, CARVED, CUT, KEPT, MARKER, READABLE, REPORT, STORE, TABLE, BoxFolder
+from .kept_checks import has_canonical, has_carved, has_copy, has_parts
+from .kept_pages import KeptPage, KeptPages, KeptPart, made_claims
 
 # The number of files that are put together, and of their bytes.
 MOST_FILES, MOST_BYTES = 200, 16 << 20
+# What is wrong with the disk, and so with all files, in the system's words.
+OF_DISK = frozenset(map(os.strerror, (errno.ENOSPC, errno.EDQUOT, errno.EROFS, errno.EFBIG, errno.EIO)))
+
+# Of a file that is shown, it is noted under this path what its bytes are, and under its own of what it was made.
+BYTES = "/bytes"
 
 
 class PutFiles:
@@ -75,24 +84,43 @@ class PutFiles:
         self.put(path, data)
 
     def flush(self) -> None:
-        """Puts the files that wait."""
+        """Puts the files that wait, each at a path of its own. Raises NotWritten where the disk takes none."""
         some = dict(self.waiting)
         self.waiting, self.length = [], 0
         known = {path: self._hashes(path) for path in some}
         new = {path: hashlib.sha256(data).digest() for path, data in some.items()}
         self._note({path: digest for path, digest in new.items() if digest not in known[path]})
         for path, data in some.items():
-            self._put(path, data, new[path], known[path])
+            try:
+                self._put(path, data, new[path], known[path])
+            except NotWritten as error:
+                if error.reason in OF_DISK:
+                    raise
+                self.lose(path, error.reason)
         self._forget({path: digest for path, digest in new.items() if known[path] - {digest} and path not in self.lost})
 
     def has_shown(self, path: str, digest: bytes) -> bool:
         """Whether the file at a path is there, and was made of what has this hash."""
         return os.path.isfile(self.place.of(path)) and digest in self._hashes(path)
 
-    def show(self, path: str, digest: bytes) -> None:
-        """Notes of what the file at a path was made."""
-        self._note({path: digest})
-        self._forget({path: digest})
+    def require_unchanged(self, path: str) -> None:
+        """Raises NotWritten where the file at a path isn't as it was moved there."""
+        there, made = _hash_of(self.place.of(path)), self._hashes(path + BYTES)
+        if there is not None and made and there not in made:
+            raise NotWritten(self.place.of(path), messages.CHANGED_IN_BOX)
+
+    def move(self, part: str, path: str, digest: bytes) -> None:
+        """Moves a whole file to a path, and notes its bytes, and by a hash of what it was made. Raises NotWritten."""
+        made = _hash_of(part)
+        assert made is not None
+        self._note({path + BYTES: made})
+        try:
+            os.replace(part, self.place.of(path))
+        except OSError as error:
+            raise NotWritten(path, reason(error)) from None
+        new = {path + BYTES: made, path: digest}
+        self._note(new)
+        self._forget(new)
 
     def _hashes(self, path: str) -> Set[bytes]:
         """What the runs before made there."""
@@ -111,8 +139,12 @@ class PutFiles:
         elif there in known:
             replace(whole, data)
         else:
-            self.lost.add(path)
-            self.complain(whole, messages.CHANGED_IN_BOX)
+            self.lose(path, messages.CHANGED_IN_BOX)
+
+    def lose(self, path: str, why: str) -> None:
+        """Tells of a file that isn't made; the others are."""
+        self.lost.add(path)
+        self.complain(self.place.of(path), why)
 
     def _note(self, new: Dict[str, bytes]) -> None:
         """Notes what will stand where."""
@@ -148,6 +180,8 @@ def _hash_of(path: str) -> Optional[bytes]:
         raise NotWritten(path, reason(error)) from None
 
 
+# The column of the table of files that has the path of a treated copy.
+COPY_PATH = "readable"
 # The columns of the table of pages that were cut out of files.
 OF_CUT = ["path", "source", "how", "offset", "bytes", "cut_at", "at_least_bytes", "at_most_offset", "answer"]
 
@@ -178,15 +212,18 @@ class BoxFiles:
     def __init__(self, put: PutFiles, terms: AnswerTerms, names: Names, find: Callable[[FileFacts], Optional[KeptPage]],
                  complain: Callable[[str, str], None]) -> None:
         self.put, self.terms, self.names, self.find, self.complain = put, terms, names, find, complain
+        self.free = FreeNames(put.place.path, tell_of, sees_disk=True, folds=folds_case(put.place.of(MARKER)))
         self.totals = Totals()
         self.cut: List[Members] = []
         self.table = io.BytesIO()
+        # (of the file that is at work)
+        self.copy_path: Optional[str] = None
 
     def make(self, files: Iterator[FileFacts]) -> None:
         """Makes the files of all that the store has. Raises NotWritten."""
-        printer = Printer("csv", every_file.COLUMNS, self.table)
+        printer = Printer("csv", [*every_file.COLUMNS, COPY_PATH], self.table)
         for file in files:
-            every_file.show(printer, file)
+            self.copy_path = None
             try:
                 if file.answer == tables.ACCEPTED:
                     self._canonical(file)
@@ -196,6 +233,7 @@ class BoxFiles:
                     self._long(file)
             except NotNamed as error:
                 self.complain(file.at_path.path, str(error))
+            printer.row({**shown_as(file.at_path), **every_file.members(file), COPY_PATH: self.copy_path})
         self.put.put(TABLE, self.table.getvalue())
         self.put.put(CUT, self._table_of_cut())
         self.put.flush()
@@ -215,37 +253,41 @@ class BoxFiles:
         self.totals.canonical.add(canon)
         path = os.path.join(CANONICAL, canon.hex()[:2], canon.hex() + ".nap")
         try:
-            if os.lstat(self.put.place.of(path)).st_size == file.canon_size:
+            if _hash_of(self.put.place.of(path)) == canon:
                 return
-        except OSError:
-            pass  # (it isn't there)
+        except NotWritten:
+            pass  # (what is wrong there is reported where it is put)
         kept = self.find(file)
-        if kept is None or kept.canon is None:
+        if kept is None or kept.canon is None or not has_canonical(file, kept):
             self.complain(path, messages.NOT_KEPT)
         else:
             self.put.put(path, kept.canon)
 
     def _refused(self, file: FileFacts) -> None:
         """The treated copy of a refused file, its parts, or the pages that were carved out of it."""
-        is_carved = file.kind is None and file.looks_like is None and file.treated is None
-        if file.treated is None and file.kind != tables.CAPTURE and not is_carved:
-            return
         kept = self.find(file)
         if kept is None:
             self.complain(file.at_path.path, messages.NOT_KEPT)
             return
-        if file.treated is not None and kept.cure is not None and kept.copy is not None:
-            self._copy(file, kept.cure, kept.copy)
-        if file.kind == tables.CAPTURE and kept.parts is not None:
+        if file.treated is not None and self._is_true(has_copy, file, kept):
+            self._copy(file, kept)
+        if file.kind == tables.CAPTURE and self._is_true(has_parts, file, kept):
             self._parts(file, kept)
-        if kept.carved:
-            self._carved(file, kept.carved, kept.cut or b"", file.own or b"")
+        if kept.carved and self._is_true(has_carved, file, kept):
+            self._carved(file, kept)
+
+    def _is_true(self, has: Callable[[FileFacts, KeptPage], bool], file: FileFacts, kept: KeptPage) -> bool:
+        """Whether what is kept can be so; else that is reported."""
+        if not has(file, kept):
+            self.complain(file.at_path.path, messages.NOT_KEPT)
+            return False
+        return True
 
     def _long(self, file: FileFacts) -> None:
         """The pages inside a file that is too long for one."""
         kept = self.find(file)
-        if kept is not None and kept.carved and kept.data is not None:
-            self._carved(file, kept.carved, kept.cut or b"", kept.data)
+        if kept is not None and kept.carved:
+            self._carved(file, kept)
 
     def _named(self, folder: str, file: FileFacts) -> str:
         """The path for what is made of a file, below the folder of the box. Raises NotNamed."""
@@ -254,12 +296,15 @@ class BoxFiles:
         except NotWritten as error:
             raise NotNamed(str(error)) from None
 
-    def _copy(self, file: FileFacts, cure: Members, copy: bytes) -> None:
-        assert isinstance(file.answered, Refusal)
-        path = self._named(READABLE, file)
-        treatment: Members = {**cure, "program": self.terms.version}
+    def _copy(self, file: FileFacts, kept: KeptPage) -> None:
+        """The treated copy of a refused file."""
+        assert isinstance(file.answered, Refusal) and kept.cure is not None and kept.copy is not None
+        usual = self._named(READABLE, file)
+        path = self.free.of(usual, lambda path: notes.paths_with_notes([path]))
+        treatment: Members = {**kept.cure, "program": self.terms.version}
         note = notes.treated_note(file.at_path.path, file.answered, treatment, self.terms.budget)
-        self.put.put_noted(path, copy, note)
+        self.put.put_noted(path, kept.copy, {**note, **notes.path_members(path, path == usual)})
+        self.copy_path = shown(path)
         self.totals.copies += 1
         self.totals.guesses += file.grade == tables.WITHIN
 
@@ -268,19 +313,24 @@ class BoxFiles:
         name, data, parts = file.at_path.path, kept.data or b"", kept.parts or []
         self.totals.captures += 1
         some = [_cut(data, parts, number) for number in range(len(parts))]
-        beside = self._named(CAPTURES, file)
+        usual = self._named(CAPTURES, file)
+        beside = self.free.of(usual, lambda path: notes.paths_with_notes(notes.part_paths(path, len(parts))))
         source = notes.capture_source(name, data, len(parts), self.terms.version)
         for number, part in enumerate(some, 1):
             path = notes.part_path(beside, number, len(parts))
-            self.put.put_noted(path, part.data, notes.part_note(source, number, part))
+            more = notes.path_members(path, beside == usual)
+            self.put.put_noted(path, part.data, {**notes.part_note(source, number, part), **more})
             self.totals.cut += 1
             self.cut.append({"path": shown(path), "source": shown(name), "how": "split", "offset": part.piece.offset,
                              "bytes": part.piece.length, "cut_at": part.piece.cut_at,
                              "answer": _answer_line(part.answer)})
 
-    def _carved(self, file: FileFacts, parts: List[KeptPart], cut: bytes, sha256: bytes) -> None:
-        """The pages inside a file of no known kind, which has this hash."""
-        name, stem = file.at_path.path, self._named(CARVED, file)
+    def _carved(self, file: FileFacts, kept: KeptPage) -> None:
+        """The pages inside a refused file. (Of one that is too long for a page, its hash is kept.)"""
+        parts, cut, sha256 = kept.carved or [], kept.cut or b"", file.own or kept.data or b""
+        name, usual = file.at_path.path, self._named(CARVED, file)
+        stem = self.free.of(usual, lambda path: notes.paths_with_notes(
+            notes.carved_path(path, part.offset) for part in parts))
         source = notes.carve_source(name, file.size or 0, sha256.hex())
         at = 0
         for part in parts:
@@ -290,7 +340,9 @@ class BoxFiles:
                 self.complain(name, found.answer.reason)
                 continue
             path = notes.carved_path(stem, found.offset)
-            self.put.put_noted(path, found.data, notes.carved_note(source, found, LEAST_ENTRIES, self.terms.version))
+            note = notes.carved_note(source, found, LEAST_ENTRIES, self.terms.version)
+            more = notes.path_members(path, stem == usual)
+            self.put.put_noted(path, found.data, {**note, **more})
             self.totals.carved += 1
             self.cut.append({"path": shown(path), "source": shown(name), "how": "carve", "offset": found.offset,
                              "bytes": len(found.data), "at_least_bytes": found.least_end - found.offset,
@@ -320,10 +372,19 @@ def _answer_line(answer: Answer) -> str:
     return answer.line if isinstance(answer, (Accepted, Refusal)) else answer.reason
 
 
-# Refused files that no treatment makes readable and that are no capture: of a format that is known, or of none.
-OTHERS = f"""SELECT count(*) FROM present f CROSS JOIN pages p ON p.id = f.page
+# Refused files that no treatment makes readable and that are no capture, by the formats that they look like.
+OTHERS = f"""SELECT coalesce(p.looks_like, ''), count(*) FROM present f CROSS JOIN pages p ON p.id = f.page
     LEFT JOIN cures c ON c.page = p.id AND c.terms = p.terms WHERE p.state = {tables.REFUSED} AND p.kind IS NULL
-    AND c.treatments IS NULL AND coalesce(p.looks_like, '') {{}} ''"""
+    AND c.treatments IS NULL GROUP BY 1"""
+
+
+class FilesOfFormat(NamedTuple):
+    """How many files look like a format; or like none, which has no name."""
+
+    looks_like: Text
+    files: Count
+
+
 # The number of formats that are named.
 MOST_NAMED = 4
 
@@ -334,7 +395,8 @@ def summary_lines(place: BoxFolder, connection: sqlite3.Connection, it: Status, 
     connection.execute(equal.GROUPS.format(equal.SEVERAL + equal.COPIES, "count(*) > 1"))
     groups = int(connection.execute("SELECT count(*) FROM found").fetchone()[0])
     with_copies = len(load_groups(connection))
-    unknown, known = (int(connection.execute(OTHERS.format(is_so)).fetchone()[0]) for is_so in ("=", "<>"))
+    formats = {row.looks_like: row.files for row in checked(connection.execute(OTHERS), FilesOfFormat)}
+    unknown = formats.pop("", 0)
     counts, kinds = it.counts.get, it.tally.kinds.get
     folder = shown(place.path)
     return [
@@ -349,7 +411,7 @@ def summary_lines(place: BoxFolder, connection: sqlite3.Connection, it: Status, 
         "equal pages:     %s of accepted files, %d with readable copies; %s, in %s" % (
             numbered(groups, "group"), with_copies, numbered(
                 len(totals.canonical), "different canonical page"), CANONICAL),
-        f"other kinds:     {known}{_formats(it)}",
+        f"other kinds:     {sum(formats.values())}{_formats(formats)}",
         f"not known:       {numbered(unknown, 'file')}",
         f"not read:        {_unread_line(it)}",
         f"look at:         {folder}/{REPORT}; {TABLE} has each file, {CUT} each page that was cut out of one"]
@@ -366,9 +428,9 @@ def _captures_line(files: int, pages: int, folder: str) -> str:
     return f"{numbered(files, 'file')}, cut into {numbered(pages, 'part')}, in {folder}"
 
 
-def _formats(it: Status) -> str:
+def _formats(numbers: Dict[str, int]) -> str:
     """The formats that most files look like."""
-    some = sorted(it.tally.looks.items(), key=lambda each: (-each[1], each[0]))
+    some = sorted(numbers.items(), key=lambda each: (-each[1], each[0]))
     formats = [f"{number} {name}" for name, number in some[:MOST_NAMED]]
     return f": {', '.join(formats)}{', ..' if len(some) > MOST_NAMED else ''}" if formats else ""
 
@@ -409,8 +471,9 @@ class BoxRun:
         is_lost = os.path.lexists(place.of(STORE)) and not os.path.lexists(place.of(KEPT))
         self.options = options._replace(retry=Retry(again=is_lost, cures=given.cures, words=given.words))
         self.processes = given.processes or processors()
-        self.kept = KeptPages(place.of(KEPT), not given.no_carve, place.of(CLAIMS), is_new=True)
-        Claims(place.of(CLAIMS), is_new=True)
+        self.kept = KeptPages(place.of(KEPT), not given.no_carve, is_new=True)
+        self.claims = made_claims(place.path)
+        self.kept.share(self.claims)
         self.status = COMPLETE
         self.worker: Optional[BoxWorker] = None
 
@@ -429,7 +492,7 @@ class BoxRun:
                 raise
         finally:
             with suppress(OSError):
-                os.unlink(self.place.of(CLAIMS))
+                os.unlink(self.claims)
             if self.worker:
                 self.worker.close()
             self.kept.close()
@@ -451,40 +514,61 @@ class BoxRun:
         shown_by = hashlib.sha256(repr((VERSION, version, it.roots, it.tally.left)).encode("ascii", "backslashreplace"))
         shown_by.update(files.table.getvalue())
         if not put.has_shown(REPORT, shown_by.digest()):
-            self._report()
-            put.show(REPORT, shown_by.digest())
+            self._report(put, shown_by.digest())
         return summary_lines(self.place, connection, it, files.totals)
 
-    def _report(self) -> None:
-        """Makes the report, of what is kept."""
+    def _report(self, put: PutFiles, shown_by: bytes) -> None:
+        """Makes the report of what is kept, unless somebody changed the one that is there. Raises NotWritten."""
         gc.set_threshold(OBJECTS)  # (a large store has many objects, all of which are needed)
-        made = make(open_to_read(self.place.of(STORE)), ReportOptions(
-            self.place.of(STORE), self.place.of(REPORT), self.options.program, USUAL_SKETCHES, False, self.processes,
-            self.options.seconds, replace=True, kept=self.place.of(KEPT)))
-        for path, why in made.missed:
-            self._complain(path, messages.NO_SKETCH.format(reason=why))
+        part = self.place.of(f".naplps-{secrets.token_hex(4)}")
+        try:
+            put.require_unchanged(REPORT)
+            made = make(open_to_read(self.place.of(STORE)), ReportOptions(
+                self.place.of(STORE), part, self.options.program, USUAL_SKETCHES, False, self.processes,
+                self.options.seconds, kept=self.place.of(KEPT)))
+            put.move(part, REPORT, shown_by)
+            for path, why in made.missed:
+                self._complain(path, messages.NO_SKETCH.format(reason=why))
+        except TooLarge as error:
+            put.lose(REPORT, str(error))
+        except NotWritten as error:
+            if error.reason in OF_DISK:
+                raise NotWritten(self.place.of(REPORT), error.reason) from None
+            put.lose(REPORT, error.reason)
+        finally:
+            with suppress(OSError):
+                os.unlink(part)
 
     def _complain(self, name: str, why: str) -> None:
-        tell(f"{shown(name)}: {why}")
+        tell_of(name, why)
         self.status = max(self.status, SOME_LACK)
 
     def _find(self, file: FileFacts) -> Optional[KeptPage]:
         """What is kept of a file's page. Where too little is, the file is read again."""
         if file.own is None:
             return self._find_long(file)
-        kept = self.kept.of(file.own)
+        kept = self._kept_of(file.own)
         if kept is None or self._lacks(file, kept):
             self._fill(file, file.own)
-            kept = self.kept.of(file.own)
+            kept = self._kept_of(file.own)
         return kept
+
+    def _kept_of(self, own: bytes) -> Optional[KeptPage]:
+        """What is kept by a hash; nothing where it can't be read, so that it is found out anew."""
+        try:
+            return self.kept.of(own)
+        except StoreFailed:
+            return None
 
     def _find_long(self, file: FileFacts) -> Optional[KeptPage]:
         """What is kept of a file that is too long for a page; where nothing is, it is read."""
         key = key_of_long(file)
-        kept = self.kept.of(key)
+        kept = self._kept_of(key)
+        if kept is not None and (kept.data is None or not has_carved(file, kept)):
+            kept = None
         if kept is None and not self.given.no_carve:
             try:
-                kept = carve_long(file, self._local_worker().program)
+                kept = carve_long(file, self.place.roots, self._local_worker().program)
             except NotCarved as why:
                 self._complain(file.at_path.path, str(why))
                 return None
@@ -499,10 +583,11 @@ class BoxRun:
     def _lacks(self, file: FileFacts, kept: KeptPage) -> bool:
         """Whether more is asked for now than is kept of a page."""
         if file.answer == tables.ACCEPTED:
-            return kept.canon is None
-        is_unknown = file.kind is None and file.looks_like is None and file.treated is None
-        return (is_unknown and kept.carved is None and not self.given.no_carve) or (
-            file.treated is not None and kept.copy is None)
+            return not has_canonical(file, kept)
+        is_searched = kept.is_searched(file.looks_like) and not self.given.no_carve
+        return (is_searched and not has_carved(file, kept)) or (
+            file.treated is not None and not has_copy(file, kept)) or (
+            file.kind == tables.CAPTURE and not has_parts(file, kept))
 
     def _fill(self, file: FileFacts, own: bytes) -> None:
         """Reads a file again, and keeps what its page comes to."""
@@ -513,6 +598,8 @@ class BoxRun:
             return
         page.close()
         if page.data is not None:
-            piece = self._local_worker().answered([Seen(File(0, b"", tables.READ, own=own), page.data)])
+            worker = self._local_worker()
+            worker.tries_treatments(file.treated is not None)
+            piece = worker.answered([Seen(File(0, b"", tables.READ, own=own), page.data)])
             self.kept.take(block_of(piece).values)
             self.kept.write()

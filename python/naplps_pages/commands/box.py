@@ -14,7 +14,7 @@ SOURCES = Argument("folders", "FOLDER", "a folder of files, a pack of them, whic
                    "file", "+")
 INTO = Option("--into", "the folder of all that is found: a new one, or that of a run before", "PLACE",
               completes=FOLDERS, is_required=True)
-NO_CARVE = Option("--no-carve", "look for no pages inside files of no known kind", default=False)
+NO_CARVE = Option("--no-carve", "carve no pages out of refused files", default=False)
 
 
 def _parts() -> List[Part]:

@@ -93,14 +93,14 @@ def has_a_page(ask: Ask, parts: List[CutPart]) -> bool:
 
 
 def _is_readable(ask: Ask, part: CutPart) -> bool:
-    """Whether it is refused, and what a treatment graded around leaves of it is accepted as a page."""
+    """Whether it is refused, and what is left of it without bytes before and after it is accepted as a page."""
     from naplps.answers import Accepted, Refusal
     from naplps.treating.treatments import TreatmentSearch
     from .. import file_kinds
     if not isinstance(part.answer, Refusal):
         return False
     cure = TreatmentSearch(ask).find(part.data, part.answer.place)
-    return (cure is not None and not cure.treated.is_guess
+    return (cure is not None and cure.is_cut
             and file_kinds.kind((cure.data,), Accepted(cure.entries)) == file_kinds.PAGE)
 
 
@@ -108,17 +108,17 @@ def _write(session: Session, page: Page, parts: List[CutPart]) -> None:
     """Writes the parts, each after its note."""
     from naplps.answers import Unanswered
     from naplps.client import version
-    from ..notes import capture_source, part_note, part_path, put_part
+    from ..notes import capture_source, part_note, part_path, part_paths, paths_with_notes, put_part
     assert page.data is not None
     source = capture_source(page.name, page.data, len(parts), version(session.program.path, session.program.limits))
-    beside = session.path_for(page.name)
+    beside = session.path_for(page.name, making=lambda path: paths_with_notes(part_paths(path, len(parts))))
     if session.into is not None:
         make_folder(session.into)
     for number, part in enumerate(parts, 1):
         path = part_path(beside, number, len(parts))
         if isinstance(part.answer, Unanswered):
             session.complain(path, part.answer.reason)
-        put_part(path, part, part_note(source, number, part))
+        put_part(path, part, {**part_note(source, number, part), **session.path_members(path)})
         _print(session, path, part)
 
 
