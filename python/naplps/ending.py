@@ -29,6 +29,7 @@ class Ending:
         self.processes: Set[Ends] = set()
         self.is_watched = self.is_starting = False
         self.late: Optional[int] = None
+        self.number: Optional[int] = None
 
     def watch(self) -> None:
         """Has signals raise Stopped in the main thread, but for those that are ignored, as under nohup."""
@@ -53,7 +54,17 @@ class Ending:
         elif not issubclass(ignored.exc_type, MemoryError):  # (whoever lacks memory next says so)
             sys.__unraisablehook__(ignored)
 
+    def is_asked_for(self) -> bool:
+        """Whether a signal has come, also one that came amid a callback of a library, in which Stopped is lost."""
+        return self.number is not None
+
+    def act(self) -> None:
+        """Raises Stopped where a signal has come."""
+        if self.number is not None:
+            raise Stopped(self.number)
+
     def _stop(self, number: int, _: Optional[FrameType]) -> None:
+        self.number = number
         if not self.is_starting:
             raise Stopped(number)
         self.late = number

@@ -16,6 +16,7 @@ class NotWritten(Exception):
 
     def __init__(self, name: str, reason: str) -> None:
         super().__init__(f"{shown(name)}: {reason}")
+        self.name, self.reason = name, reason
 
 
 class OutputLost(NotWritten):
@@ -28,6 +29,11 @@ class OutputLost(NotWritten):
 def tell(text: str) -> None:
     """A line on standard error. Whatever a terminal wouldn't show as itself has an escape."""
     tell_line(f"{TOOL}: {printable(text)}")
+
+
+def tell_of(name: str, why: str) -> None:
+    """A line on standard error about what has this name."""
+    tell(f"{shown(name)}: {why}")
 
 
 def tell_line(text: str) -> None:

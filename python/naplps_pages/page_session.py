@@ -15,6 +15,9 @@ from .source import Page, Unread, is_store, read
 if TYPE_CHECKING:
     from argparse import Namespace
 
+    from naplps.names import Members
+
+    from .free_names import Making
     from .listing import Earlier, Heard, Listed
 
 # The options that a session has.
@@ -45,6 +48,8 @@ class Session:
     treated: str = ""
     is_quiet: bool = False
     status: int = ACCEPTED
+    # (whether the last file got the usual path)
+    is_usual: bool = True
 
     def __init__(self, program: Client, names: List[str], after: "Optional[Earlier]" = None, **options: Any) -> None:
         self.program, self.names, self.after = program, names, after
@@ -80,8 +85,11 @@ class Session:
         """What stands below the picture of a page where there are several."""
         return shown(page.name)
 
-    def path_for(self, name: str, ending: str = "") -> str:
-        """The path of the file for a page in the folder that is given, where folders are made. Raises NotWritten."""
+    def path_for(self, name: str, ending: str = "", making: "Optional[Making]" = None) -> str:
+        """The path of the file for a page in the folder that is given, where folders are made. Raises NotWritten.
+
+        `making` names the files that are made of it, where these are others.
+        """
         assert self.into is not None
         from .new_files import below, make_folders
         if name not in self.paths:
@@ -90,6 +98,13 @@ class Session:
         if os.path.dirname(path):
             make_folders(self.into, path)
         return os.path.join(self.into, path)
+
+    def path_members(self, path: str) -> "Members":
+        """What the note of a file tells of its path, where that isn't the usual one."""
+        if self.is_usual:
+            return {}
+        from .notes import path_members
+        return path_members(os.path.relpath(path, self.into))
 
     def answered(self, page: Page, answer: Answer) -> bool:
         """Keeps the status of an answer, and tells where there is none; whether there is one."""

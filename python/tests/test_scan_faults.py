@@ -87,7 +87,7 @@ def main(descriptor):
     line.send(("alive", None))
     line.recv()
     while True:
-        for folder, path, names, _ in line.recv():
+        for folder, path, names, *_ in line.recv():
             for name in names:
                 if name == b"hangs": time.sleep(600)
                 if name == b"fails": line.send(("failed", "MemoryError")); os._exit(1)

@@ -5,14 +5,16 @@ import signal
 import sqlite3
 import stat
 import time
+import types
 
 import pytest
 
 from forked import begun, ended, forked, require_told
-from naplps_pages.collection import tables
+from naplps_pages.collection import search, tables
 from naplps_pages.collection.folders import identity_of
 from naplps_pages.collection.search import MAX_BROKEN, hidden, walk
 from naplps_pages.collection.protocol import FolderFiles, WorkerOptions
+from naplps_pages.collection.scan import ScanRun
 from naplps_pages.collection.store import open_to_read
 from naplps_pages.collection.worker import Worker
 from packers import entry, pack, written, zip_of
@@ -30,9 +32,10 @@ def store(tmp_path):
 def chunks(root, hides):
     """The chunks of a folder, as the scan met them."""
     for number, listing in enumerate(walk(os.fsencode(root), hides), 1):
-        yield FolderFiles(number, listing.path, listing.names, listing.identity)
+        yield FolderFiles(number, listing.path, listing.names, listing.identity, len(root))
         for name in listing.packs:
-            yield FolderFiles(number + 100, os.path.join(listing.path, name) + b"!/", (b"",), listing.identity)
+            path = os.path.join(listing.path, name) + b"!/"
+            yield FolderFiles(number + 100, path, (b"",), listing.identity, len(root))
 
 
 def replaced_by_link(sub, outside):
@@ -54,6 +57,14 @@ def linked_above(sub, outside):
     os.symlink(os.path.join(outside, "in"), top)
 
 
+def read_by_worker(fake, chunk, elsewhere=False):
+    """The files of a chunk as a worker reads them, by their names."""
+    worker = Worker(WorkerOptions(fake(FAKE), 0, 600, 1 << 20), lambda hashes: set(), elsewhere=elsewhere)
+    found = [file for piece in worker.pieces(tuple(chunk)) for file in piece[0]]
+    worker.close()
+    return {file.name: (file.state, file.why, file.own) for file in found}
+
+
 @pytest.mark.parametrize("change", [replaced_by_link, replaced_by_folder, linked_above])
 def test_a_folder_that_is_replaced_while_it_waits_is_not_read(fake, tmp_path, change):
     root = tree(os.path.join(str(tmp_path), "root"), {"a": POINT, "top/sub/b": POINT, "top/sub/c": OUTSIDE})
@@ -62,11 +73,71 @@ def test_a_folder_that_is_replaced_while_it_waits_is_not_read(fake, tmp_path, ch
         pack(os.path.join(folder, "p.tar"), {"m": b"TOP SECRET"})
     met = list(chunks(root, hidden(os.path.join(str(tmp_path), "pages.db"))))
     change(os.path.join(root, "top", "sub"), outside)
-    worker = Worker(WorkerOptions(fake(FAKE), 0, 600, 1 << 20), lambda hashes: set())
-    found = [file for piece in worker.pieces(tuple(met)) for file in piece[0]]
-    worker.close()
-    assert {file.name: (file.state, file.why, file.own) for file in found if file.name not in (b"a",)} == {
-        name: (tables.CHANGED, REPLACED, None) for name in (b"b", b"c", b"")}
+    found = read_by_worker(fake, met)
+    assert found.pop(b"a")[0] == tables.READ
+    assert found == {name: (tables.CHANGED, REPLACED, None) for name in (b"b", b"c", b"")}
+
+
+@pytest.fixture
+def exchanged(tmp_path):
+    """The chunks of a folder, of which one above others then becomes a link to a folder outside."""
+    root = tree(os.path.join(str(tmp_path), "root"), {"top/sub/b": POINT})
+    outside = tree(os.path.join(str(tmp_path), "outside"), {"sub/b": b"TOP SECRET"})
+    for folder in (os.path.join(root, "top", "sub"), os.path.join(outside, "sub")):
+        pack(os.path.join(folder, "p.tar"), {"m": b"TOP SECRET"})
+    met = list(chunks(root, hidden(os.path.join(str(tmp_path), "pages.db"))))
+    replaced_by_link(os.path.join(root, "top"), outside)
+    return met, os.stat(os.path.join(outside, "sub")).st_ino
+
+
+def test_a_scan_reads_nothing_outside_of_the_folder_that_was_named(naplps, tmp_path, store, monkeypatch):
+    root = tree(os.path.join(str(tmp_path), "root"), {"top/a/in": POINT, "top/b/in": SPELLED})
+    outside = tree(os.path.join(str(tmp_path), "outside"), {"a/secret": OUTSIDE, "b/secret": OUTSIDE})
+    listed, top = search._listed, os.path.join(root, "top")
+    status = os.stat(top)
+
+    def meanwhile(descriptor, hides):
+        names = listed(descriptor, hides)
+        if os.path.samestat(os.fstat(descriptor), status):
+            replaced_by_link(top, outside)
+        return names
+    monkeypatch.setattr(search, "_listed", meanwhile)
+    said = forked(["scan", "root", "--into", "pages.db"], str(tmp_path), naplps)
+    assert rows(store, "SELECT name, state, page FROM files") == [(b"in", tables.CHANGED, None)] * 2
+    assert said.status == 1 and said.err.decode().splitlines() == [
+        f"naplps-pages: {root}/top/{name}/in: {REPLACED}" for name in "ab"]
+
+
+def test_a_folder_outside_that_has_the_same_number_is_not_read(fake, exchanged):
+    """On another machine devices have other numbers, so that of a folder says little there."""
+    met, number = exchanged
+    met = [each._replace(identity=each.identity._replace(inode=number)) for each in met if b"sub" in each.path]
+    assert read_by_worker(fake, met, elsewhere=True) == {
+        name: (tables.CHANGED, REPLACED, None) for name in (b"b", b"")}
+
+
+def test_files_that_wait_are_read_in_the_folder_that_was_named(fake, exchanged, tmp_path):
+    """Those of a box whose page another worker had asked about, which then ended, are read again."""
+    met, _ = exchanged
+    writer = types.SimpleNamespace(
+        files=[tables.File(each.folder, b"b", tables.READ) for each in met], packs={each.folder for each in met[3:]},
+        connection=sqlite3.connect(":memory:"), forget=lambda: None)
+    writer.connection.execute("CREATE TABLE folders(id, path)")
+    writer.connection.executemany("INSERT INTO folders VALUES(?, ?)", [(each.folder, each.path) for each in met])
+    run = types.SimpleNamespace(writer=writer)
+    waiting = ScanRun._waiting(run, [os.fsencode(os.path.join(str(tmp_path), "root"))])
+    found = read_by_worker(fake, [each for chunk in waiting for each in chunk if b"sub" in each.path])
+    assert found == {name: (tables.VANISHED, why, None) for name, why in (
+        (b"b", "its folder vanished"), (b"", "it vanished while it was looked at"))}
+
+
+def test_a_pack_that_becomes_a_link_while_it_waits_is_not_read(fake, tmp_path):
+    root = tree(os.path.join(str(tmp_path), "root"), {"sub/b": POINT})
+    path, outside = os.path.join(root, "sub", "p.tar"), os.path.join(str(tmp_path), "outside.tar")
+    pack(outside, {"m": b"TOP SECRET"})
+    os.symlink(outside, path)
+    found = read_by_worker(fake, [FolderFiles(1, os.fsencode(path) + b"!/", (b"",), None, len(root))])
+    assert found == {b"": (tables.UNREADABLE, "it is no regular file", None)}
 
 
 def test_a_named_folder_may_be_a_link_but_no_other(run, tmp_path, store):

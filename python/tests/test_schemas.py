@@ -188,7 +188,7 @@ def test_pages_without_a_text_are_told(run, tmp_path, pages):
     assert b"1 without their text" in run(["files", parts[2]]).stdout
     said = run(["find", "hello", parts[2]])
     assert said.stdout.endswith(b"text: hello\n") and said.returncode == 0 and (
-        b"1 page has no text kept, and can't be found: a scan with --words keeps it" in said.stderr)
+        b"1 page has no text kept, and can't be found: the next scan keeps it" in said.stderr)
 
 
 def test_a_merge_takes_both_schemas(old, store, run, tmp_path, pages):

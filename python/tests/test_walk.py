@@ -1,10 +1,16 @@
-"""Folders that are odd: deeper than a path may be, in themselves, with names of every kind."""
+"""Folders that are odd: deeper than a path may be, in themselves, exchanged, with names of every kind."""
 import os
+import subprocess
+
+import pytest
 
 from naplps_pages.collection import folders, search, tables
+from naplps_pages.collection.progress import Counting
+from naplps_pages.collection.protocol import FolderFiles, WorkerOptions
 from naplps_pages.collection.search import apart
+from naplps_pages.collection.worker import Worker
 from samples import POINT, SPELLED
-from scans import rows, tree
+from scans import FAKE, rows, tree
 
 NOTHING = search.Hidden(None, frozenset())
 DEEP = 40
@@ -77,6 +83,115 @@ def test_a_path_that_is_too_long_for_the_system(run, tmp_path):
         assert (said.stdout, said.stderr) == (b"1 written, 0 there\n", b"")
     finally:
         fill_in(path)
+
+
+LEVELS, BESIDE = 5000, 100
+
+
+@pytest.fixture(scope="module")
+def levels(tmp_path_factory):
+    """A folder of many levels, with a file, and a folder beside the next one, in each hundredth."""
+    top = str(tmp_path_factory.mktemp("levels"))
+    at = os.open(top, os.O_RDONLY)
+    for level in range(LEVELS + 1):
+        if level % BESIDE == 0:
+            os.close(os.open(b"x", os.O_WRONLY | os.O_CREAT, dir_fd=at))
+            os.mkdir(b"e", dir_fd=at)
+        os.mkdir(b"d", dir_fd=at)
+        below = os.open(b"d", os.O_RDONLY, dir_fd=at)
+        os.close(at)
+        at = below
+    os.close(at)
+    yield top
+    subprocess.run(["rm", "-rf", top], check=True)  # (shutil.rmtree would recurse)
+
+
+def open_files():
+    return len(os.listdir("/proc/self/fd"))
+
+
+def test_many_levels_with_few_open_folders(levels):
+    before, most, found = open_files(), 0, []
+    for listing in search.walk(os.fsencode(levels), NOTHING):
+        most = max(most, open_files())
+        found.append((listing.path[len(levels):], listing.state, listing.names))
+    assert found == [
+        *((b"/d" * level, tables.READ, () if level % BESIDE or level > LEVELS else (b"x",))
+          for level in range(LEVELS + 2)),
+        *((b"/d" * level + b"/e", tables.READ, ()) for level in range(LEVELS, -1, -BESIDE))]
+    assert most - before <= 40 and open_files() == before
+
+
+def test_a_worker_reads_many_levels_with_few_open_folders(levels, fake):
+    root = os.fsencode(levels)
+    chunk = tuple(FolderFiles(level, root + b"/d" * level, (b"x",), None, len(root))
+                  for level in (*range(0, LEVELS + 1, BESIDE), *range(LEVELS, -1, -BESIDE)))
+    before, most, found = open_files(), [0], []
+    worker = Worker(WorkerOptions(fake(FAKE), 0, 600, 1 << 20), lambda hashes: set(),
+                    lambda: most.append(open_files()))
+    for files, _ in worker.pieces(chunk):
+        found += [file.folder for file in files if file.state == tables.READ]
+    worker.close()
+    assert found == [each.folder for each in chunk]
+    assert max(most) - before <= 60 and open_files() == before
+
+
+def exchanged(folder, outside):
+    """Puts a link to another folder in the place of a folder, as somebody may while it is searched."""
+    os.rename(folder, folder + "-moved")
+    os.symlink(outside, folder)
+
+
+@pytest.fixture
+def swapped(tmp_path):
+    """A folder in which `top` is to be exchanged, and another one with the same folders."""
+    root = tree(os.path.join(str(tmp_path), "root"), {"top/a/in": b"a", "top/b/in": b"b", "top/b/p.tar": b"p"})
+    outside = tree(os.path.join(str(tmp_path), "outside"), {"a/secret": b"s", "b/secret": b"s", "b/p.tar": b"s"})
+    return root, outside
+
+
+def test_a_folder_above_that_becomes_a_link_is_not_followed(swapped):
+    root, outside = swapped
+    steps = search.walk(os.fsencode(root), NOTHING)
+    found = [next(steps), next(steps)]
+    exchanged(os.path.join(root, "top"), outside)
+    found += steps
+    assert [(each.path[len(root):], each.state, each.names) for each in found] == [
+        (b"", tables.READ, ()), (b"/top", tables.READ, ()), (b"/top/a", tables.READ, (b"in",)),
+        (b"/top/b", tables.READ, (b"in",))]
+    assert found[3].packs == (b"p.tar",)
+
+
+def test_a_link_in_place_of_a_folder_that_is_opened_again_is_not_followed(swapped, monkeypatch):
+    """Of a deep tree a folder above is open no longer once the walk comes back to it."""
+    root, outside = swapped
+    monkeypatch.setattr(folders, "MOST_OPEN", 1, raising=False)
+    steps = search.walk(os.fsencode(root), NOTHING)
+    found = [next(steps), next(steps), next(steps)]
+    exchanged(os.path.join(root, "top"), outside)
+    found += steps
+    assert [(each.path[len(root):], each.state, each.names) for each in found] == [
+        (b"", tables.READ, ()), (b"/top", tables.READ, ()), (b"/top/a", tables.READ, (b"in",)),
+        (b"/top/b", tables.VANISHED, ())]
+
+
+def test_files_are_counted_in_the_named_folder_alone(swapped, monkeypatch):
+    """They are counted beside the scan, for the time that is left."""
+    root, outside = swapped
+    top = os.path.join(root, "top")
+    os.unlink(os.path.join(top, "b", "p.tar"))
+    tree(outside, {"a/more": b"", "a/most": b""})
+    scandir, status = os.scandir, os.stat(top)
+
+    def meanwhile(which):
+        listed = scandir(which)
+        if os.path.samestat(os.stat(which), status) and not os.path.islink(top):
+            exchanged(top, outside)
+        return listed
+    monkeypatch.setattr(os, "scandir", meanwhile)
+    counting = Counting([os.fsencode(root)])
+    counting.run()
+    assert counting.total == 2 and os.path.islink(top)
 
 
 def test_paths_in_pieces():

@@ -23,7 +23,7 @@ from .. import messages
 from ..console import tell
 from ..interpreter import FOLDER, interpreter
 from ..packs import pack_of
-from .folders import Replaced, join, opened_again, reason
+from .folders import OpenFolders, Replaced, join, reason
 from .pool import ClusterFailed, Task, Workers, count, ending, halves
 from .protocol import Chunk, FolderFiles, Piece, RowBlock, WorkerOptions, block_of, limit_memory
 from .tables import UNREADABLE, VANISHED, File
@@ -152,7 +152,9 @@ def is_here(names: FolderFiles) -> bool:
     """Whether a folder is here what it was when the scan met it, so that it is another one elsewhere."""
     pack = pack_of(names.path)
     try:
-        os.close(opened_again(names.path if pack is None else os.path.dirname(pack), names.identity))
+        with OpenFolders() as folders:
+            path = names.path if pack is None else os.path.dirname(pack)
+            folders.opened_again(path, names.root, names.identity)
     except (OSError, Replaced):
         return False
     return True

@@ -421,14 +421,15 @@ def _verified_spelling(program: Client, group: Group, spelling: Spelling,
 
 
 def _canon(program: Client, page: Page, spelling: Spelling) -> Optional[Answer]:
-    """The answer to `canon` on a page, or on its treated copy; None where that is another now."""
+    """The answer to `canon` on a page, or on its treated copy; None where that, or its grade, is another now."""
     if spelling.treated is None:
         return program.ask("canon", page)
     answer = program.ask("check", page)
     if not isinstance(answer, Refusal) or page.data is None:
         return None
     cure = find(program.ask, page.data, answer.place)
-    if cure is None or hashed(cure.data) != spelling.treated.copy:
+    if cure is None or hashed(cure.data) != spelling.treated.copy or cure.treated.is_guess != (
+            spelling.treated.grade == WITHIN):
         return None
     return program.ask("canon", cure.data)
 

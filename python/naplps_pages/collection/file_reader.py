@@ -173,7 +173,7 @@ class PackScan:
 
     def __init__(self, names: FolderFiles, limits: PackLimits, members: Optional[int] = None,
                  elsewhere: bool = False) -> None:
-        self.folder, path, (encoded,), self.identity = names
+        self.folder, path, (encoded,), self.identity, self.root = names
         self.path, self.elsewhere = pack_of(path) or b"", elsewhere
         self.limits, self.most_members, self.start = limits, members, _from(encoded)
         self.own = File(self.folder, b"", READ)
@@ -182,7 +182,7 @@ class PackScan:
     def members(self) -> Iterator[Seen]:
         """The members, as files."""
         try:
-            with open_file(self.path, self.identity, self.elsewhere) as file:
+            with open_file(self.path, self.root, self.identity, self.elsewhere) as file:
                 yield from self._members(file)
         except Replaced:
             self.own, self.left = File(self.folder, b"", CHANGED, REPLACED), None

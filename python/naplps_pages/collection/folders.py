@@ -1,13 +1,17 @@
 """Folders by their descriptors, since paths may be longer than the system takes at once; and where pages are."""
 import errno
 import os
-from typing import Iterator, NamedTuple, Optional
+from collections import OrderedDict
+from types import TracebackType
+from typing import Iterable, Iterator, List, NamedTuple, Optional, Type
 
 from ..packs import pack_of
 
 FLAGS = os.O_RDONLY | os.O_DIRECTORY | os.O_CLOEXEC | os.O_NOCTTY
 # Bytes of a path that are given to the system at once.
 PIECE = 2048
+# The number of folders that are open at a time on the way through a tree.
+MOST_OPEN = 32
 
 
 def absolute(name: str) -> bytes:
@@ -71,24 +75,78 @@ def identity_of(descriptor: int, is_root: bool) -> FolderIdentity:
     return FolderIdentity(is_root, status.st_dev, status.st_ino, is_mount)
 
 
-def opened_again(path: bytes, identity: Optional[FolderIdentity], elsewhere: bool = False) -> int:
-    """A descriptor of a folder that was met before. Raises OSError, or Replaced where it isn't that any more.
+def root_length(path: bytes, roots: Iterable[bytes]) -> int:
+    """How many bytes of a path are those of the named folder that it is in; 0 where it is in none of these."""
+    return max((len(root) for root in roots if is_within(path, root)), default=0)
 
-    A link is followed only to a folder that was named. Elsewhere, on another machine, devices have other numbers.
+
+class OpenFolders:
+    """Opens folders below those that were named, each by its name in the open folder above it, so that no link and no
+    folder that is exchanged meanwhile leads out of what was named. The last ones stay open, for those in them.
     """
-    is_root = identity is not None and identity.is_root
-    try:
-        descriptor = opened(path, follow=is_root)
-    except OSError as error:
-        if identity and error.errno in (errno.ELOOP, errno.ENOTDIR):
-            raise Replaced from None
-        raise
-    if identity:
-        now = identity_of(descriptor, is_root)
-        if now != (identity._replace(device=now.device) if elsewhere else identity):
-            os.close(descriptor)
-            raise Replaced
-    return descriptor
+
+    def __init__(self) -> None:
+        self.descriptors: "OrderedDict[bytes, int]" = OrderedDict()
+
+    def __enter__(self) -> "OpenFolders":
+        return self
+
+    def __exit__(self, kind: Optional[Type[BaseException]], error: Optional[BaseException],
+                 trace: Optional[TracebackType]) -> None:
+        while self.descriptors:
+            self._close_oldest()
+
+    def opened(self, path: bytes, root: int) -> int:
+        """The descriptor of a folder, open until the next is asked for. Raises OSError.
+
+        So many bytes of its path are those of a named folder, which alone may be a link; where it is below none, it has
+        0, and isn't opened through a link itself.
+        """
+        names: List[bytes] = []
+        while len(path) > root > 0 and path not in self.descriptors:
+            path, name = os.path.split(path)
+            names.append(name)
+        if path not in self.descriptors:
+            self._keep(path, opened(path, follow=root > 0))
+        self.descriptors.move_to_end(path)
+        descriptor = self.descriptors[path]
+        for name in reversed(names):
+            path = join(path, name)
+            descriptor = self._keep(path, _below(descriptor, name))
+        return descriptor
+
+    def opened_again(self, path: bytes, root: int, identity: Optional[FolderIdentity], elsewhere: bool = False) -> int:
+        """The same for a folder that was met before. Raises OSError, or Replaced where it isn't that any more.
+
+        Elsewhere, on another machine, devices have other numbers.
+        """
+        try:
+            descriptor = self.opened(path, root)
+        except OSError as error:
+            if identity and error.errno in (errno.ELOOP, errno.ENOTDIR):
+                raise Replaced from None
+            raise
+        if identity:
+            now = identity_of(descriptor, identity.is_root)
+            if now != (identity._replace(device=now.device) if elsewhere else identity):
+                raise Replaced
+        return descriptor
+
+    def _keep(self, path: bytes, descriptor: int) -> int:
+        self.descriptors[path] = descriptor
+        if len(self.descriptors) > MOST_OPEN:
+            self._close_oldest()
+        return descriptor
+
+    def _close_oldest(self) -> None:
+        os.close(self.descriptors.popitem(last=False)[1])
+
+
+def _below(descriptor: int, name: bytes) -> int:
+    """A descriptor of the folder of this name in an open one. Raises OSError."""
+    if name == b"..":  # (as a path of a forged store may have it)
+        raise OSError(errno.ENOENT, os.strerror(errno.ENOENT))
+    return os.open(name, FLAGS | os.O_NOFOLLOW, dir_fd=descriptor)
 
 
 def _pieces(path: bytes) -> Iterator[bytes]:

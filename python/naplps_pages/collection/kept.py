@@ -267,6 +267,11 @@ def keep(connection: sqlite3.Connection, retry: "Retry", refused: Optional[Froze
     return made
 
 
+def gets_words(retry: "Retry", refused: Optional[FrozenSet[str]]) -> bool:
+    """Whether a new store gets words of pages by a scan that is asked for this."""
+    return retry.words or retry.near or refused is not None and "words" not in refused
+
+
 def refused_by(given: object) -> FrozenSet[str]:
     """The options that the command line refuses."""
     return frozenset(name for name in OPTIONS if getattr(given, f"no_{name}"))

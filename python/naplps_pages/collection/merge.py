@@ -5,6 +5,7 @@ import heapq
 import os
 import sqlite3
 import sys
+from contextlib import ExitStack
 from itertools import groupby
 from operator import attrgetter
 from typing import Callable, Dict, Iterable, Iterator, List, NamedTuple, Optional, Sequence, Tuple
@@ -19,9 +20,10 @@ from .folders import join, reason
 from .kept import CANON_TABLES
 from .printing import numbered
 from .progress import Progress, Stopping
+from .query_bounds import STEPS_BETWEEN, watch
 from .sources import Source, Sources, lacking, require_apart
 from .status import Counts, counted
-from .store import StoreFailed, attach, keep_private, open_to_write, path_of
+from .store import StoreFailed, attach, has_texts, open_to_write, path_of
 from .store_files import INDEX, JOURNAL, LOG, MADE, Busy, Lock, place, require_own
 from .tables import (
     NO_ANSWER, UNREADABLE, Answered, Count, Cured, Fault, File, Folder, Hash, Name, PageState, PageText, Path,
@@ -282,21 +284,27 @@ def _all_ended(ends: Iterable[Optional[str]]) -> Optional[str]:
 
 # No log is needed: what isn't whole is thrown away.
 FAST = "PRAGMA journal_mode = OFF; PRAGMA synchronous = OFF;"
-# The steps of SQLite between two looks at the clock, and the number of differences that are reported one by one.
-OFTEN, MAX_TOLD = 100_000, 10
+# The number of differences that are reported one by one.
+MAX_TOLD = 10
 
 
 def merge(into: str, paths: Sequence[str], unfinished: bool) -> bool:
     """Joins the stores; whether nothing lacks. Raises StoreFailed, NotWritten, or sqlite3.Error of the new one."""
     counts: Optional[Counts] = None
+    stopping = Stopping()
     try:
-        with Stopping() as stopping, Lock(into), Sources(paths) as sources:
+        with stopping, Lock(into), Sources(paths) as sources, ExitStack() as stack:
+            for source in sources:
+                stack.enter_context(stopping.ends(source.connection))
             faults = _looked(into, sources, unfinished)
             counts = _made(into, sources, not faults, stopping)
     except Busy as busy:
         raise StoreFailed(into, messages.PROCESS_AT_WORK.format(reason=busy)) from None
     except OSError as error:
         raise NotWritten(into, reason(error)) from None
+    except StoreFailed:
+        stopping.act()  # (of a store that was read as a signal came)
+        raise
     stopping.act()
     assert counts is not None
     output = Output(sys.stdout.buffer)
@@ -334,7 +342,7 @@ def _made(into: str, sources: List[Source], finished: bool, stopping: Stopping) 
         _remove(aside)  # (what a process left that was killed)
         _require_same(into, sources, stopping)
         if stopping.number is None:
-            connection = open_to_write(aside)
+            connection = open_to_write(aside, any(has_texts(source.connection) for source in sources))
             counts = _joined(connection, sources, finished, stopping)
             connection.close()
             _place(aside, into)
@@ -373,14 +381,12 @@ def _joined(connection: sqlite3.Connection, sources: List[Source], finished: boo
     def look() -> bool:
         progress.show(os.path.getsize(path) >> 20)
         return stopping.number is not None
-    if any(source.number("SELECT count(*) FROM (SELECT 1 FROM texts LIMIT 1)") for source in sources):
-        keep_private(connection)
     connection.executescript(FAST)
-    connection.set_progress_handler(look, OFTEN)
+    connection.set_progress_handler(look, STEPS_BETWEEN)
     try:
         return Joining(connection, sources).join(finished)
     finally:
-        connection.set_progress_handler(None, 0)
+        watch(connection)
         progress.clear()
 
 

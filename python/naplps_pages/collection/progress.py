@@ -13,9 +13,8 @@ from typing import Any, Callable, Dict, Iterable, Iterator, Optional, TextIO, Ty
 from ..console import tell
 from ..packs import is_pack
 from .kept import Part, below
+from .query_bounds import STEPS_BETWEEN, watch
 
-# The steps of SQLite between two looks whether there was one.
-STEPS_BETWEEN = 100_000
 SIGNALS = (signal.SIGINT, signal.SIGTERM, signal.SIGHUP)
 
 
@@ -53,7 +52,7 @@ class Stopping:
         try:
             yield
         finally:
-            connection.set_progress_handler(None, 0)
+            watch(connection)
 
     def act(self) -> None:
         """Lets the signal act that was kept, if one was."""
@@ -86,24 +85,16 @@ class Counting(threading.Thread):
 
 
 def _count(root: bytes, part: Optional[Part]) -> Optional[int]:
+    from .search import NOTHING, walk  # (only a scan counts)
     files = 0
     if is_pack(root) and not os.path.isdir(root):
         return None
     if os.path.isfile(root):
         return 1
-    stack = [root]
-    while stack:
-        try:
-            with os.scandir(stack.pop()) as entries:
-                for entry in entries:
-                    if entry.is_dir(follow_symlinks=False):
-                        stack.append(entry.path)
-                    elif is_pack(entry.name):
-                        return None
-                    elif part is None or part.takes(below(root, entry.path)):
-                        files += 1
-        except OSError:
-            continue  # it is told where it is read
+    for listing in walk(root, NOTHING):
+        if listing.packs:
+            return None
+        files += len(part.names(below(root, listing.path), listing.names) if part else listing.names)
     return files
 
 

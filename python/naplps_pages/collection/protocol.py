@@ -30,7 +30,8 @@ class Retry(NamedTuple):
 
 
 class FolderFiles(NamedTuple):
-    """Files of one folder: its number in the store, its path, and their names; and which folder it was, as it was met.
+    """Files of one folder: its number in the store, its path, and their names; which folder it was, as it was met; and
+    how many bytes of its path are those of the named folder below which it was met, 0 if it wasn't met so.
 
     A pack is a folder with one name: nothing, or from where on it is to be read. It has the identity of the folder that
     it is in; a pack that was named by itself has none, so it may be a link.
@@ -40,6 +41,7 @@ class FolderFiles(NamedTuple):
     path: bytes
     names: Tuple[bytes, ...]
     identity: Optional[FolderIdentity] = None
+    root: int = 0
 
 
 # What a worker is given at a time.

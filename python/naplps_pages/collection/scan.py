@@ -21,8 +21,8 @@ from ..console import COMPLETE, FAILED, SOME_LACK, Output, tell
 from ..packs import NO_FILE, SEVERAL
 from ..unexpected import Unexpected
 from . import texts
-from .folders import absolute, is_gone, join, reason
-from .kept import CANON_TABLES, KEEPS_TO, Part, keep, keep_part
+from .folders import absolute, is_gone, join, reason, root_length
+from .kept import CANON_TABLES, KEEPS_TO, Part, gets_words, keep, keep_part
 from .pool import MAIN, ClusterFailed, NoWorkers, Pool, Workers, WorkersFailed
 from .progress import Counting, Progress, Stopping
 from .protocol import Chunk, FolderFiles, RowBlock, WorkerOptions
@@ -172,7 +172,7 @@ def _scan_or_stop(options: ScanOptions, terms: Terms, stopping: Stopping, roots:
 
 def _scan(options: ScanOptions, terms: Terms, stopping: Stopping, roots: List[bytes],
           cluster: Optional[Workers]) -> "ScanRun":
-    connection = open_to_write(options.store)
+    connection = open_to_write(options.store, gets_words(options.worker.retry, options.refused))
     try:
         keep_part(connection, options.store, options.part, roots)
         retry = keep(connection, options.worker.retry, options.refused)
@@ -240,7 +240,7 @@ class ScanRun:
         beside = self.options.beside
         self._work(self.workers, self.search.chunks(roots))
         if beside and self.stopping.number is None:
-            waiting = self._waiting()
+            waiting = self._waiting(roots)
             if waiting:
                 self._work(self._pool(beside.anew), iter(waiting))
         try:
@@ -274,7 +274,7 @@ class ScanRun:
             self.progress.clear()
         self._write()
 
-    def _waiting(self) -> List[Chunk]:
+    def _waiting(self, roots: List[bytes]) -> List[Chunk]:
         """The files that still wait for the answer to their page; of a pack all."""
         names: Dict[int, List[bytes]] = {}
         for file in self.writer.files:
@@ -283,7 +283,8 @@ class ScanRun:
         chunks: List[Chunk] = []
         for folder, some in names.items():
             path, = self.writer.connection.execute("SELECT path FROM folders WHERE id = ?", (folder,)).fetchone()
-            chunks.append((FolderFiles(folder, path, (b"",) if folder in self.writer.packs else tuple(some)),))
+            names_in_folder = (b"",) if folder in self.writer.packs else tuple(some)
+            chunks.append((FolderFiles(folder, path, names_in_folder, root=root_length(path, roots)),))
         return chunks
 
     def compare(self) -> None:

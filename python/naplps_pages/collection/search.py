@@ -10,7 +10,7 @@ from typing import Callable, Dict, FrozenSet, Iterable, Iterator, List, Mapping,
 from .. import messages
 from ..packs import NO_FILE, inside, is_pack, pack_of
 from .file_reader import Marks, marks
-from .folders import FolderIdentity, identity_of, is_gone, is_within, join, opened, reason
+from .folders import FolderIdentity, OpenFolders, identity_of, is_gone, is_within, join, opened, reason, root_length
 from .kept import Part, below
 from .protocol import Chunk, FolderFiles, Retry
 from .store_files import ENDINGS
@@ -54,6 +54,9 @@ class Hidden(NamedTuple):
             return False
 
 
+NOTHING = Hidden(None, frozenset())
+
+
 class _Above(NamedTuple):
     """The folders in which one stands."""
 
@@ -78,11 +81,16 @@ def _identity(status: os.stat_result) -> Identity:
 
 def walk(root: bytes, hides: Hidden) -> Iterator[Listing]:
     """The folder and those below it."""
+    with OpenFolders() as folders:
+        yield from _walk(root, hides, folders)
+
+
+def _walk(root: bytes, hides: Hidden, folders: OpenFolders) -> Iterator[Listing]:
     stack: List[Tuple[bytes, Optional[_Above]]] = [(root, None)]
     while stack:
         path, above = stack.pop()
         try:
-            descriptor = opened(path, follow=above is None)
+            descriptor = folders.opened(path, len(root))
         except OSError as error:
             yield _unread(path, error, above is None)
             continue
@@ -101,8 +109,6 @@ def walk(root: bytes, hides: Hidden) -> Iterator[Listing]:
                     yield Listing(each, UNREADABLE, LONG_PATH)
         except OSError as error:
             yield _unread(path, error, above is None)
-        finally:
-            os.close(descriptor)
 
 
 def _listed(descriptor: int, hides: Optional[Hidden]) -> Tuple[List[bytes], List[bytes], List[bytes]]:
@@ -293,12 +299,15 @@ class Search:
         """The files that a worker has to look at; now and then none, while none is found."""
         held: List[FolderFiles] = []
         files = length = 0
-        for number, (folder, path, names, which) in enumerate(each for root in roots for each in self._root(root)):
+        pairs = ((root, found) for root in roots for found in self._root(root))
+        for number, (root, (folder, path, names, which)) in enumerate(pairs):
+            length_of_root = root_length(path, (root,))
             for some in _cut(names, self.scope):
+                folder_files = FolderFiles(folder, path, some, which, length_of_root)
                 if not some or pack_of(path) is not None:
-                    yield (FolderFiles(folder, path, some, which),) if some else ()
+                    yield (folder_files,) if some else ()
                     continue
-                held.append(FolderFiles(folder, path, some, which))
+                held.append(folder_files)
                 files += len(some)
                 length += len(path) + sum(map(len, some))
                 if files >= self.scope.files or length >= self.scope.names:
@@ -388,9 +397,9 @@ class Search:
         return {"terms": self.writer.terms, "cures": self.scope.retry.cures, "words": self.scope.retry.words}
 
     def _marks(self, name: bytes, descriptor: Optional[int]) -> Optional[Marks]:
-        """The marks of a pack by its name in a folder; a link is followed, since one may be named."""
+        """The marks of a pack by its name in a folder; without one, a link is followed, since one may be named."""
         try:
-            return marks(os.stat(name, dir_fd=descriptor))
+            return marks(os.stat(name, dir_fd=descriptor, follow_symlinks=descriptor is None))
         except OSError:
             return None
 

@@ -6,7 +6,7 @@ import os
 import sqlite3
 from argparse import Namespace
 from dataclasses import dataclass
-from typing import TYPE_CHECKING, Any, Callable, Iterator, List, NamedTuple, Optional, Sequence, Type
+from typing import TYPE_CHECKING, Any, Callable, Dict, Iterator, List, NamedTuple, Optional, Sequence, Type
 
 from naplps.answers import Refusal
 from naplps.client import Client
@@ -14,7 +14,8 @@ from naplps.names import shown
 from naplps.treating.treatments import find, graded
 
 from .. import console, messages
-from ..console import NotWritten, tell
+from ..console import NotWritten, tell, tell_of
+from ..free_names import FreeNames, Making
 from ..listing import Listed
 from ..new_files import make_folders
 from ..packs import pack_of
@@ -84,6 +85,7 @@ class Names:
     def __init__(self, connection: sqlite3.Connection) -> None:
         paths = [root.path for root in checked(connection.execute(ROOTS), RootPath)]
         self.roots = [path for path in paths if not any(other != path and is_within(path, other) for other in paths)]
+        self.fronts = _fronts([os.path.basename(root) for root in self.roots])
 
     def of(self, place: Place) -> str:
         """The path for a file. Raises NotWritten.
@@ -96,19 +98,30 @@ class Names:
         for number, root in enumerate(self.roots):
             below = _below(path, root)
             if below is not None:
-                parts = [part for part in (*self._front(number), *below.split(b"/")) if part not in (b"", b".")]
-                if b".." in parts or not below.strip(b"/."):
+                parts = [part for part in (self.fronts[number], *below.split(b"/")) if part not in (b"", b".")]
+                if b".." in parts or not below.strip(b"/.") or b"\0" in below:
                     raise NotWritten(place.path, messages.NO_FILE_NAME)
                 return os.path.join(*map(os.fsdecode, parts))
         raise NotWritten(place.path, messages.NOT_BELOW_ROOT)
 
-    def _front(self, number: int) -> List[bytes]:
-        """What stands before the files of a root where there are several: its name, with a number if need be."""
-        names = [os.path.basename(root) for root in self.roots]
-        name = names[number]
-        if len(names) == 1 or not name:
-            return []
-        return [name if name not in names[:number] else name + b" (%d)" % (names[:number].count(name) + 1)]
+
+def _fronts(names: List[bytes]) -> List[bytes]:
+    """What stands before the files of each root where there are several: its name, with a number if need be."""
+    taken: Dict[bytes, int] = dict.fromkeys(names, 0)
+    return [_front(name, taken) if name and len(names) > 1 else b"" for name in names]
+
+
+def _front(name: bytes, taken: Dict[bytes, int]) -> bytes:
+    """A name, or where an earlier root has that the name with the next number that makes no name of another."""
+    taken[name] += 1
+    if taken[name] == 1:
+        return name
+    front = name + b" (%d)" % taken[name]
+    while front in taken:
+        taken[name] += 1
+        front = name + b" (%d)" % taken[name]
+    taken[front] = 1
+    return front
 
 
 def _below(path: bytes, root: bytes) -> Optional[bytes]:
@@ -123,6 +136,7 @@ class StoreSession(Session):
     """One run of a command on the files of a store."""
 
     current: Optional[StoredFile] = None
+    free: Optional[FreeNames] = None
 
     def __init__(self, program: Client, names: List[str], files: Iterator[StoredFile], stored: Names,
                  **options: Any) -> None:
@@ -173,10 +187,14 @@ class StoreSession(Session):
         except Otherwise as otherwise:
             raise Unread(str(otherwise)) from None
 
-    def path_for(self, name: str, ending: str = "") -> str:
-        """The path of the file for a page, in the folder that is given. Raises NotWritten."""
+    def path_for(self, name: str, ending: str = "", making: Optional[Making] = None) -> str:
+        """The path of the file for a page, in the folder that is given; no other file's of this run. Raises NotWritten.
+        """
         assert self.into is not None and self.current
-        path = self.stored.of(self.current.place) + ending
+        self.free = self.free or FreeNames(self.into, tell_of)
+        usual = self.stored.of(self.current.place)
+        path = self.free.of(usual, making or (lambda path: [path + ending])) + ending
+        self.is_usual = path == usual + ending
         make_folders(self.into, path)
         return os.path.join(self.into, path)
 

@@ -20,6 +20,7 @@ from . import texts
 from .equal import EqualFile, Group, grouped
 from .kept import CANON_TABLES, Part, RootPath, kept_part
 from .progress import Progress
+from .query_bounds import watch
 from .store import StoreFailed, open_unchanged, schema_of, show_present
 from .store_files import is_held
 from .tables import NO_ANSWER, Count, Hash, Name, PageState, Path, Row, Text, checked, marks, require_right
@@ -310,6 +311,7 @@ def groups_over(paths: Sequence[str], copies: bool, complain: Callable[[str, str
         for path, why in lacking(sources):
             complain(path, why)
         work = sqlite3.connect("", isolation_level=None)  # a database of temporary files
+        watch(work)
         try:
             yield from grouped(_Over(work, sources, copies).files())
         except sqlite3.Error as error:

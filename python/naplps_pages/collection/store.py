@@ -5,6 +5,7 @@ import stat
 import time
 from typing import Callable, Dict, Iterator, Optional, Set, Type
 
+from naplps.ending import ENDING
 from naplps.faults import NoProgram
 from naplps.names import printable, shown
 from naplps.version import VERSION
@@ -13,7 +14,8 @@ from .. import TOOL, messages
 from ..console import FAILED, NotWritten, tell
 from ..unexpected import Unexpected, failure_message
 from . import tables
-from .store_files import APPLICATION, LOG, MAGIC, foreign, is_held, place
+from .query_bounds import bounded, require_ends, statistics_of, watch
+from .store_files import APPLICATION, LOG, MAGIC, close_to_others, foreign, is_held, place
 from .tables import Row, checked
 
 # A reader may hold a store that has only a rollback journal so long, in seconds.
@@ -23,8 +25,8 @@ PLAIN = frozenset(b"/-._~0123456789ABCDEFGHIJKLMNOPQRSTUVWXYZabcdefghijklmnopqrs
 CACHE, LOG_PAGES = 32 << 10, 8000
 # What SQLite says of a file that is no database.
 NO_DATABASE = "file is not a database"
-# What others than the owner may do with a file.
-OF_OTHERS = 0o077
+# The modes of a new file that its owner alone can read, and of one that others can, as far as the mask allows that.
+PRIVATE, OPEN = 0o600, 0o644
 # How many seconds one wait for readers takes.
 TURN = 0.1
 
@@ -38,6 +40,7 @@ class StoreFailed(Exception):
 
 def _connected(path: str, mode: str) -> sqlite3.Connection:
     connection = sqlite3.connect(address(path, mode), uri=True, timeout=PATIENCE, isolation_level=None)
+    watch(connection)
     connection.execute("PRAGMA trusted_schema = OFF")
     return connection
 
@@ -99,11 +102,15 @@ def show_present(connection: sqlite3.Connection) -> bool:
     return False
 
 
-def open_to_write(path: str) -> sqlite3.Connection:
-    """The store, to be written; it is made where there is none. Raises StoreFailed or sqlite3.Error."""
+def open_to_write(path: str, is_private: bool = True) -> sqlite3.Connection:
+    """The store, to be written. Where there is none it is made, so that its owner alone can read it if it is private.
+    Raises StoreFailed or sqlite3.Error.
+    """
     if os.path.lexists(path):
         _look(path, may_be_empty=True)
-    _look_beside(path)
+    else:
+        _look_beside(path)
+        _make_file(path, PRIVATE if is_private else OPEN)
     connection = _checked(path, "rwc")
     try:
         connection.execute(f"PRAGMA cache_size = {-CACHE}")
@@ -114,12 +121,24 @@ def open_to_write(path: str) -> sqlite3.Connection:
         raise
 
 
+def _make_file(path: str, mode: int) -> None:
+    """Makes the file of a new store, which has its mode from its first instant on. Raises StoreFailed."""
+    try:
+        os.close(os.open(path, os.O_RDWR | os.O_CREAT | os.O_EXCL | os.O_CLOEXEC, mode))
+    except OSError as error:
+        raise StoreFailed(path, error.strerror or str(error)) from None
+
+
 def _look(path: str, may_be_empty: bool = False) -> None:
     """Raises StoreFailed where there is no such file, with the system's reason; where it is no database, which SQLite
-    would make of one byte too; or where a foreign file is beside it."""
+    would make of one byte too; or where a foreign file is beside it. An empty file of another user isn't taken, who may
+    have it open and read what is written there."""
     try:
-        if not stat.S_ISREG(os.stat(path).st_mode):
+        status = os.stat(path)
+        if not stat.S_ISREG(status.st_mode):
             raise StoreFailed(path, messages.NOT_A_FILE)
+        if may_be_empty and not status.st_size and status.st_uid not in (0, os.geteuid()):
+            raise StoreFailed(path, messages.EMPTY_OF_OTHER)
         with open(os.open(path, os.O_RDONLY | os.O_NONBLOCK | os.O_CLOEXEC), "rb") as file:
             begins = file.read(len(MAGIC))
     except OSError as error:
@@ -166,10 +185,15 @@ def _checked(path: str, mode: str) -> sqlite3.Connection:
     """A connection to a file that is a store; an empty one may become one. Raises StoreFailed or sqlite3.Error."""
     connection = _connected(path, mode)
     try:
-        if mode == "rwc" and _is_empty(connection):
-            _make(connection)
-        schema = _check(path, connection)
-        _check_tables(path, connection, schema)
+        with bounded(connection, path):
+            if mode == "rwc" and _is_empty(connection):
+                _make(connection)
+            schema = _check(path, connection)
+            why = statistics_of(path, connection)
+            if why:
+                raise StoreFailed(path, why)
+            own = _check_tables(path, connection, schema)
+        require_ends(path, connection, own)
         if mode != "rwc" and schema == tables.EARLIER:
             _show_as_now(connection)
         return connection
@@ -192,8 +216,9 @@ def _show_as_now(connection: sqlite3.Connection) -> None:
         connection.execute(f"CREATE TEMP VIEW {name} AS {words}")
 
 
-def _check_tables(path: str, connection: sqlite3.Connection, schema: int) -> None:
-    """Raises StoreFailed where tables, indices or views aren't those of a store.
+def _check_tables(path: str, connection: sqlite3.Connection, schema: int) -> Dict[str, str]:
+    """The store's own tables that have rows, with their words. Raises StoreFailed where tables, indices or views aren't
+    those of a store.
 
     Other plain tables, and indices of these, are nobody's matter. But other views, triggers and virtual tables, and
     other indices of the store's own tables, would act where it is read or written. An index of words is there as a
@@ -216,6 +241,8 @@ def _check_tables(path: str, connection: sqlite3.Connection, schema: int) -> Non
     for name in [*(name for kind, name in expected if kind == "table"), *(tables.TEXT_INDEX if has_words else ())]:
         if ("table", name) not in found:
             raise StoreFailed(path, messages.LACKS_TABLE.format(table=name))
+    return {name: words for kind, name, _, words in rows
+            if kind == "table" and name in tables_of_own and name != tables.INDEX}
 
 
 def _optional(further: Set[str]) -> Dict[str, str]:
@@ -276,18 +303,19 @@ def path_of(connection: sqlite3.Connection) -> str:
         connection.text_factory = before
 
 
-def keep_private(connection: sqlite3.Connection) -> None:
-    """Lets only its owner read a store that gets its first texts, as they may be those of pages that others can't read.
-
-    The words of pages stand beside the keys of those that are almost equal too. Raises OSError.
-    """
+def has_texts(connection: sqlite3.Connection) -> bool:
+    """Whether a store has words of pages, which are also beside the keys of those that are almost equal."""
     from .kept import NEAR_KEYS
     some = ["texts", *[NEAR_KEYS.name] * NEAR_KEYS.is_there(connection)]
-    if all(connection.execute(f"SELECT 1 FROM main.{name} LIMIT 1").fetchone() is None for name in some):
-        path = path_of(connection)
-        mode = stat.S_IMODE(os.stat(path).st_mode)
-        if mode & OF_OTHERS:
-            os.chmod(path, mode & ~OF_OTHERS)
+    return any(connection.execute(f"SELECT 1 FROM main.{name} LIMIT 1").fetchone() for name in some)
+
+
+def keep_private(connection: sqlite3.Connection) -> None:
+    """Lets only its owner read a store that gets its first texts, as they may be those of pages that others can't read.
+    Raises OSError.
+    """
+    if not has_texts(connection):
+        close_to_others(path_of(connection))
 
 
 def keep_log(connection: sqlite3.Connection) -> bool:
@@ -349,11 +377,13 @@ def run(named: str, work: Callable[[], int]) -> int:
     """Runs the work of a command on the store of this name; the status."""
     try:
         return work()
-    except (NoProgram, NotWritten, StoreFailed, Unexpected) as error:
-        tell(str(error))
     except BrokenPipeError:
         raise
+    except (NoProgram, NotWritten, StoreFailed, Unexpected) as error:
+        ENDING.act()  # (in a query that it ends, SQLite makes another error of a signal)
+        tell(str(error))
     except Exception as error:  # pylint: disable=broad-except
+        ENDING.act()
         why = str(error) if isinstance(error, sqlite3.Error) else failure_message(error)
         tell(f"{shown(named)}: {why}")
     return FAILED

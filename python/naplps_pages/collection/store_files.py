@@ -10,7 +10,7 @@ import stat
 import sys
 import time
 from types import TracebackType
-from typing import Optional, Type
+from typing import List, Optional, Type
 
 from .. import messages
 
@@ -47,6 +47,25 @@ BEGINS_LOG = tuple(bytes((0x37, 0x7F, 0x06, last)) + LOG_VERSION.to_bytes(4, "bi
 NUMBER = re.compile(rb"[0-9]{1,20}\n?")
 
 
+# What others than the owner may do with a file.
+OF_OTHERS = 0o077
+
+
+def close_to_others(store: str) -> None:
+    """Lets only its owner read a store that is open. Raises OSError, where the file of this name isn't a store any more
+    too.
+
+    Its descriptor is left to the end of the process: when one is closed, SQLite's locks on the file end.
+    """
+    if not os.lstat(store).st_mode & OF_OTHERS:
+        return
+    descriptor = os.open(store, FLAGS)
+    status = os.fstat(descriptor)
+    if not stat.S_ISREG(status.st_mode) or not begins_store(os.pread(descriptor, HEADER, 0)):
+        raise OSError(messages.NOT_A_STORE)
+    os.fchmod(descriptor, stat.S_IMODE(status.st_mode) & ~OF_OTHERS)
+
+
 class NotOwn(OSError):
     """What stands beside a store isn't its own, with what it is."""
 
@@ -74,8 +93,7 @@ def require_own(store: str, ending: str) -> None:
     """
     path = place(store, ending)
     try:
-        if not _is_plain(os.lstat(path), store, ending):
-            raise NotOwn(messages.NOT_ITS_OWN.format(ending=ending))
+        _require_plain(os.lstat(path), store, ending)
         descriptor = os.open(path, FLAGS)
     except FileNotFoundError:
         return
@@ -88,12 +106,44 @@ def require_own(store: str, ending: str) -> None:
 def require_own_file(descriptor: int, store: str, ending: str) -> None:
     """Looks whether an open file is the store's own. Raises OSError, of it NotOwn."""
     status = os.fstat(descriptor)
-    if not _is_plain(status, store, ending) or not _begins_own(os.pread(descriptor, HEADER, 0), ending):
+    _require_plain(status, store, ending)
+    if not _begins_own(os.pread(descriptor, HEADER, 0), ending):
         raise NotOwn(messages.NOT_ITS_OWN.format(ending=ending))
     if ending == JOURNAL:
         length = len(BEGINS_JOURNAL)
         if os.pread(descriptor, length, max(0, status.st_size - length)) == BEGINS_JOURNAL and status.st_size > length:
             raise NotOwn(messages.JOURNAL_OF_OTHER.format(ending=JOURNAL))
+
+
+def _require_plain(status: os.stat_result, store: str, ending: str) -> None:
+    """Raises NotOwn where it isn't a plain file of somebody who may write the store."""
+    if not _is_plain(status, store, ending):
+        raise NotOwn(messages.NOT_ITS_OWN.format(ending=ending))
+    if not _may_write(status.st_uid, store):
+        raise NotOwn(messages.OF_OTHER_USER.format(ending=ending))
+
+
+def _may_write(user: int, store: str) -> bool:
+    """Whether a user may write a store as root, this user, its owner, or by its mode; one that isn't there yet as root
+    or this user."""
+    if user in (0, os.geteuid()):
+        return True
+    try:
+        status = os.stat(store)
+    except FileNotFoundError:
+        return False
+    return user == status.st_uid or bool(status.st_mode & stat.S_IWOTH) or (
+        bool(status.st_mode & stat.S_IWGRP) and status.st_gid in _groups(user))
+
+
+def _groups(user: int) -> List[int]:
+    """The groups of a user; none of one whom the system doesn't know."""
+    import pwd  # (which few stores need)
+    try:
+        entry = pwd.getpwuid(user)
+        return os.getgrouplist(entry.pw_name, entry.pw_gid)
+    except (KeyError, OSError):
+        return []
 
 
 def _is_plain(status: os.stat_result, store: str, ending: str) -> bool:

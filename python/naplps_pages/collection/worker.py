@@ -8,7 +8,7 @@ from naplps.answers import Accepted, Answer, HashedAnswer, Refusal, Unanswered
 from naplps.client import Client
 from naplps.limits import MODEST, MOST_LISTED, MOST_PAGE, Limits
 from naplps.screen_text import lines_of
-from naplps.treating.borders import clears_again, pages_in
+from naplps.treating.borders import clears_again
 from naplps.treating.treatments import Cure, TreatmentSearch
 
 from .. import file_kinds
@@ -19,7 +19,7 @@ from ..page_words import MOST_TEXT, first_words
 from ..source import Page
 from . import tables
 from .file_reader import OTHER, REPLACED, PackScan, Seen, change, look
-from .folders import Replaced, is_gone, opened_again, reason
+from .folders import OpenFolders, Replaced, is_gone, reason
 from .protocol import MAX_AHEAD, BlockMaker, Chunk, FolderFiles, Piece, Retry, RowBlock, WorkerOptions, block_of, serve
 from .store import reader
 from .tables import (
@@ -101,21 +101,19 @@ class Worker:
 
     def pieces(self, chunk: Chunk) -> Iterator[Piece]:
         """The rows of a chunk, in the order of its files."""
-        for names in chunk:
-            if pack_of(names.path) is not None:
-                yield from self._pack(names)
-                continue
-            try:
-                at = opened_again(names.path, names.identity, self.elsewhere)
-            except (OSError, Replaced) as error:
-                if isinstance(error, Replaced) or is_gone(error):
-                    self.others.append(names)
-                yield tuple(_without(names, error)), ()
-                continue
-            try:
+        with OpenFolders() as folders:
+            for names in chunk:
+                if pack_of(names.path) is not None:
+                    yield from self._pack(names)
+                    continue
+                try:
+                    at = folders.opened_again(names.path, names.root, names.identity, self.elsewhere)
+                except (OSError, Replaced) as error:
+                    if isinstance(error, Replaced) or is_gone(error):
+                        self.others.append(names)
+                    yield tuple(_without(names, error)), ()
+                    continue
                 yield from self._folder(names, at)
-            finally:
-                os.close(at)
 
     def blocks(self, chunk: Chunk) -> Iterator[RowBlock]:
         """The same, ready to be inserted."""
@@ -196,7 +194,7 @@ class Worker:
         look = file_kinds.looks_like(data[:file_kinds.MOST_LOOKED_AT], len(data))
         if not isinstance(answer, Refusal):
             return row(own, result, Described())
-        holds = pages_in(data)
+        holds = file_kinds.pages_of_capture(data, look)
         return row(own, result, Described(tables.CAPTURE if holds else None, look or "", stop=stop_of(data, answer),
                                         holds=holds))
 

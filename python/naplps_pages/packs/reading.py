@@ -8,7 +8,7 @@ from typing import IO, Dict, Optional, Tuple, Union
 from naplps.limits import MOST_PAGE
 
 from .. import messages
-from ..collection.folders import FolderIdentity, opened, opened_again, reason
+from ..collection.folders import FolderIdentity, OpenFolders, opened, reason
 from ..collection.tables import READ
 from . import ZIP, Damage, Member, PackLimits
 from .tars import Tar
@@ -21,25 +21,34 @@ BUFFER = 1 << 16
 MOST_OPEN = 4
 
 
-def open_file(path: bytes, identity: Optional[FolderIdentity] = None, elsewhere: bool = False) -> IO[bytes]:
+def open_file(path: bytes, root: int = 0, identity: Optional[FolderIdentity] = None,
+              elsewhere: bool = False) -> IO[bytes]:
     """The file of a pack at this path, from the top. Raises OSError.
 
-    A link in place of it is followed, but not where it was met in this folder. Then Replaced is raised if that is
-    another one now.
+    A link in place of it is followed, but not where it was met in this folder, or below a named one, which so many
+    bytes of its path are. Then Replaced is raised if that is another folder now.
     """
     folder, name = os.path.split(path)
-    at = opened_again(folder, identity, elsewhere) if identity else opened(folder, follow=True)
-    follow = identity is None
-    try:
-        if not stat.S_ISREG(os.stat(name, dir_fd=at, follow_symlinks=follow).st_mode):
-            raise OSError(messages.NOT_REGULAR)  # (to open a device might do something)
-        descriptor = os.open(name, FLAGS if follow else FLAGS | os.O_NOFOLLOW, dir_fd=at)
-    finally:
-        os.close(at)
+    if identity or root:
+        with OpenFolders() as folders:
+            descriptor = _opened_file(name, folders.opened_again(folder, root, identity, elsewhere), follow=False)
+    else:
+        at = opened(folder, follow=True)
+        try:
+            descriptor = _opened_file(name, at, follow=True)
+        finally:
+            os.close(at)
     if not stat.S_ISREG(os.fstat(descriptor).st_mode):
         os.close(descriptor)
         raise OSError(messages.NOT_REGULAR)
     return open(descriptor, "rb", buffering=BUFFER)
+
+
+def _opened_file(name: bytes, at: int, follow: bool) -> int:
+    """A descriptor of the regular file of this name in an open folder. Raises OSError."""
+    if not stat.S_ISREG(os.stat(name, dir_fd=at, follow_symlinks=follow).st_mode):
+        raise OSError(messages.NOT_REGULAR)  # (to open a device might do something)
+    return os.open(name, FLAGS if follow else FLAGS | os.O_NOFOLLOW, dir_fd=at)
 
 
 def open_pack(file: IO[bytes], path: bytes, limits: PackLimits, goes_back: bool = False) -> Pack:
