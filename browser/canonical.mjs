@@ -287,6 +287,8 @@ function* read(stream) {
   for (const [place, wanted] of HEADER.entries()) {
     if (stream[place] !== wanted) throw new NotCanonical("BadHeader", place);
   }
+  const next = stream[HEADER.length];
+  if (next >= 0x40 && next < 0x80) throw new NotCanonical("BadHeader", HEADER.length);
   const reader = new Reader(stream);
   while (reader.at < stream.length) yield* reader.code();
   if (reader.saved) throw new NotCanonical("Unended", stream.length);

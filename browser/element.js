@@ -8,31 +8,28 @@
 import { read } from "./canonical.mjs";
 import { dotsCanvas } from "./dots_picture.js";
 import { drawing } from "./drawing.js";
+import { fetchedBytes } from "./fetching.js";
 import { Naplps } from "./module/naplps.mjs";
 import { nodesOf, picture } from "./picture.js";
 
 // The most bytes of a page, of its canonical stream, and of the module.
 const MOST_PAGE_BYTES = 1 << 20, MOST_MODULE_BYTES = 1 << 24;
+// The most bytes of memory that the module may have, and the number of the refusal of a page that needs more.
+const MOST_MEMORY = 1 << 26, MEMORY = 21;
 const ELEMENT_STYLE = ":host { display: block; } svg, canvas { display: block; width: 100%; height: auto; }"
   + " canvas { image-rendering: pixelated; }"
   + " p { margin: 0; padding: 0.5em; border: 1px solid; overflow-wrap: anywhere; }";
 const scriptAddress = document.currentScript?.src || document.baseURI;
 let elementModule = null;
 
-async function fetchedBytes(address, most) {
-  const response = await fetch(address);
-  if (!response.ok) throw new Error(`it can't be fetched: ${response.status}`);
-  const bytes = new Uint8Array(await response.arrayBuffer());
-  if (bytes.length > most) throw new Error(`it has more than ${most} bytes`);
-  return bytes;
-}
-
 // The canonical stream of any page, by the module, which is compiled once.
 async function canonicalOf(bytes, address) {
   elementModule ||= fetchedBytes(address, MOST_MODULE_BYTES).then((module) => WebAssembly.compile(module));
-  const answer = new Naplps(await elementModule).canon(bytes);
+  const answer = new Naplps(await elementModule, { memory: MOST_MEMORY }).canon(bytes);
+  if (answer.number === MEMORY || answer.bytes?.length > MOST_PAGE_BYTES) {
+    throw new Error(`it draws more than ${MOST_PAGE_BYTES} bytes`);
+  }
   if (!answer.accepted) throw new Error(`refused ${answer.number} ${answer.name} at ${answer.place}`);
-  if (answer.bytes.length > MOST_PAGE_BYTES) throw new Error(`it draws more than ${MOST_PAGE_BYTES} bytes`);
   return answer.bytes;
 }
 

@@ -13,6 +13,8 @@ import { isWritten } from "./raster/signs.js";
 import { DotWriting } from "./raster/writing.js";
 
 const TO_BLACK = [1, 7], TO_COLOUR = [2, 5, 6], NOTHING = 0, DRAWN = 1, EDGE = 2, BOX = rowsOf("\u25a1");
+// How much is kept of pictures of glyphs and masks; each row counts as its dots and so many more.
+const MOST_KEPT = 1 << 22, OF_KEPT_ROW = 256;
 const uncounted = (spans) => ({ spans, counted: 0 });
 const hasEdge = (entry) => isFilled(entry) && (entry.texture.word & 4) !== 0;
 
@@ -49,16 +51,24 @@ class Painter {
   }
 }
 
+// The rows of dots of a canvas, each 1 where it has the value.
+function rowsThatAre(value, { inks, grid: { wide, high } }) {
+  if (!inks.includes(value)) return new Array(high).fill(new Uint8Array(wide));
+  const dots = new Uint8Array(inks.length);
+  for (let at = 0; at < dots.length; at++) dots[at] = Number(inks[at] === value);
+  return Array.from({ length: high }, (_, row) => dots.subarray(row * wide, (row + 1) * wide));
+}
+
 // Paints a glyph or a mask, all in what uses it.
 class DefinitionPainter extends Painter {
   constructor(grid, entries) {
-    super({ ...grid, grid }, new Canvas(grid, NOTHING), entries);
+    super({ ...grid, grid }, new Canvas(grid, NOTHING, Uint8Array), entries);
     this.writing.cursor.enterGlyph();
   }
 
   shape(entry) {
-    this.canvas.paint(painted(entry, this.scale), DRAWN);
-    if (hasEdge(entry)) this.canvas.paint(edgeOf(entry, this.scale), EDGE);
+    this.canvas.paintParts(painted(entry, this.scale), DRAWN);
+    if (hasEdge(entry)) this.canvas.paintParts(edgeOf(entry, this.scale), EDGE);
   }
 
   put(sign) {
@@ -69,31 +79,31 @@ class DefinitionPainter extends Painter {
 
   // Its rows of what is drawn and of what is edge, and what it counts; no entry is painted once so much was counted.
   picture(body, most) {
-    const { canvas, scale: { wide, high } } = this;
+    const { canvas } = this;
     for (const [number, entry] of body) {
       if (canvas.counted >= most) break;
       canvas.counted += OF_ENTRY;
       this.paint(number, entry);
     }
     this.writing.flush();
-    const rows = (value) => Array.from({ length: high }, (_, row) => (
-      Uint8Array.from(canvas.inks.subarray(row * wide, (row + 1) * wide), (ink) => Number(ink === value))));
-    return { drawn: rows(DRAWN), edge: rows(EDGE), counted: canvas.counted };
+    return { drawn: rowsThatAre(DRAWN, canvas), edge: rowsThatAre(EDGE, canvas), counted: canvas.counted };
   }
 }
 
 class PagePainter extends Painter {
   constructor(entries) {
     super(PAGE, new Canvas(SCREEN, BLACK), entries);
-    Object.assign(this, { mark: 0, glyphs: new Map(), masks: new Map() });
+    Object.assign(this, { mark: 0, glyphs: new Map(), masks: new Map(), pictures: new Map(), kept: 0 });
   }
 
   shape(entry) {
-    const { canvas, mark } = this, front = frontInk(entry.colour) | mark, it = painted(entry, this.scale);
-    const pattern = isFilled(entry) ? this.pattern(entry.texture) : null, behind = backInk(entry.colour);
-    if (pattern && behind !== null) canvas.paint(uncounted(it.spans), behind | mark);
-    canvas.paint(it, front, pattern);
-    if (hasEdge(entry)) canvas.paint(edgeOf(entry, this.scale), BLACK | mark);
+    const { canvas, mark } = this, front = frontInk(entry.colour) | mark, behind = backInk(entry.colour);
+    const pattern = isFilled(entry) ? this.pattern(entry.texture) : null;
+    for (const part of painted(entry, this.scale)) {
+      if (pattern && behind !== null) canvas.paint(uncounted(part.spans), behind | mark);
+      canvas.paint(part, front, pattern);
+    }
+    if (hasEdge(entry)) canvas.paintParts(edgeOf(entry, this.scale), BLACK | mark);
   }
 
   // The pattern of an area; null where it is solid.
@@ -107,14 +117,25 @@ class PagePainter extends Painter {
 
   // The picture of a glyph or a mask, which counts whenever it is used.
   picture(body, grid) {
-    const { canvas } = this, key = `${grid.wide} ${grid.high}`;
-    let kept = body.pictures.get(key);
-    if (!kept || canvas.counted + kept.counted >= MOST_COUNTED) {
-      kept = new DefinitionPainter(grid, this.entries).picture(body.entries, MOST_COUNTED - canvas.counted);
-      body.pictures.set(key, kept);
+    const { canvas } = this, key = `${body.number} ${grid.wide} ${grid.high}`;
+    let picture = this.pictures.get(key);
+    if (!picture || canvas.counted + picture.counted >= MOST_COUNTED) {
+      picture = new DefinitionPainter(grid, this.entries).picture(body.entries, MOST_COUNTED - canvas.counted);
+      this.keep(key, grid, picture);
     }
-    canvas.counted += kept.counted;
-    return kept;
+    canvas.counted += picture.counted;
+    return picture;
+  }
+
+  // Keeps a picture; those before it are dropped where that would be too much.
+  keep(key, { wide, high }, picture) {
+    const size = high * (wide + OF_KEPT_ROW);
+    if (this.kept + size > MOST_KEPT) {
+      this.pictures.clear();
+      this.kept = 0;
+    }
+    this.pictures.set(key, picture);
+    this.kept += size;
   }
 
   put(sign) {
@@ -146,7 +167,7 @@ class Raster {
   constructor(entries) {
     this.entries = entries;
     this.page = new PagePainter(entries);
-    Object.assign(this, { drawn: 0, map: new Map(), definition: null, body: [], saved: null });
+    Object.assign(this, { drawn: 0, map: new Map(), definition: null, body: [], bodies: 0, saved: null });
     this.colour = { kind: "own-start", value: null, addresses: [] };
   }
 
@@ -176,6 +197,7 @@ class Raster {
 
   entry(number, entry) {
     const { page } = this, { kind } = entry;
+    if (entry.colour && !this.definition) this.colour = entry.colour;
     if (kind === "GLYPH" || kind === "MASK") {
       page.writing.flush();
       Object.assign(this, { definition: entry, body: [], saved: page.writing.cursor.saved() });
@@ -186,7 +208,6 @@ class Raster {
     } else if (this.definition) {
       this.body.push([number, entry]);
     } else {
-      if (entry.colour) this.colour = entry.colour;
       if (kind === "CLEAR" || kind === "RESET") {
         page.writing.flush();
         this.clear(entry);
@@ -214,7 +235,7 @@ class Raster {
     this.definition = null;
     if (!definition) return;
     page.writing.cursor.putBack(this.saved);
-    const body = { entries: this.body, pictures: new Map() };
+    const body = { number: this.bodies++, entries: this.body };
     if (definition.kind === "GLYPH") page.glyphs.set(definition.character, body);
     else page.masks.set(definition.mask, body);
   }

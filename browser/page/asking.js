@@ -11,10 +11,11 @@ class Asking {
     Object.assign(this, { module, worker: null, waiting: [], asked: null, number: 0 });
   }
 
-  // What the worker answers; those that are `first` come before others that wait.
-  ask(question, isFirst = false) {
+  // What the worker answers; those that are `first` come before others that wait. One that isn't wanted any more in its
+  // turn isn't asked: it has the answer null.
+  ask(question, isFirst = false, isWanted = () => true) {
     return new Promise((done) => {
-      const it = { question: { ...question, number: ++this.number }, done };
+      const it = { question: { ...question, number: ++this.number }, done, isWanted };
       if (isFirst) this.waiting.unshift(it);
       else this.waiting.push(it);
       this.next();
@@ -32,7 +33,9 @@ class Asking {
   }
 
   next() {
-    if (this.asked || !this.waiting.length) return;
+    if (this.asked) return;
+    while (this.waiting.length && !this.waiting[0].isWanted()) this.waiting.shift().done(null);
+    if (!this.waiting.length) return;
     if (!this.worker) this.start();
     this.asked = this.waiting.shift();
     this.timer = setTimeout(() => this.end({ fault: SLOW, isSlow: true }), PATIENCE);

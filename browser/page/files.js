@@ -2,6 +2,8 @@
 
 // The most files that are taken at once, and the most bytes of one.
 const MOST_FILES = 20000, MOST_FILE_BYTES = 1 << 24;
+// The most files that are read ahead, and the most bytes of them.
+const READ_AHEAD = 32, MOST_AHEAD = 1 << 25;
 
 const entryFile = (entry) => new Promise((done, fail) => { entry.file(done, fail); });
 const someEntries = (reader) => new Promise((done, fail) => { reader.readEntries(done, fail); });
@@ -58,6 +60,30 @@ async function droppedFiles(transfer) {
   return { files: files.sort(([a], [b]) => (a < b ? -1 : 1)), isPartial };
 }
 
+// The bytes of a file, or why there are none.
+async function bytesOfFile(file) {
+  if (file.size > MOST_FILE_BYTES) return { told: "not read: it is larger than 16 MiB" };
+  try {
+    return { bytes: new Uint8Array(await file.arrayBuffer()) };
+  } catch (error) {
+    return { told: `not read: ${error.message}` };
+  }
+}
+
+// Reads files in their order, some of them ahead, since browsers read one after another slowly.
+async function* readFiles(files) {
+  const ahead = [], sizes = files.map(([, file]) => (file.size > MOST_FILE_BYTES ? 0 : file.size));
+  let next = 0, size = 0;
+  for (const [at, [name, file]] of files.entries()) {
+    while (next < files.length && (next === at || (ahead.length < READ_AHEAD && size + sizes[next] <= MOST_AHEAD))) {
+      size += sizes[next];
+      ahead.push(bytesOfFile(files[next++][1]));
+    }
+    yield { name, file, ...await ahead.shift() };
+    size -= sizes[at];
+  }
+}
+
 const chosenFiles = (files) => [...files].map((file) => [file.webkitRelativePath || file.name, file]);
 
-export { MOST_FILES, MOST_FILE_BYTES, chosenFiles, droppedFiles };
+export { MOST_FILES, chosenFiles, droppedFiles, readFiles };

@@ -2,7 +2,8 @@
 // (`Player` is that of python/naplps_pages/player.)
 
 import { Asking } from "./asking.js";
-import { MOST_FILES, MOST_FILE_BYTES, chosenFiles, droppedFiles } from "./files.js";
+import { MOST_FILES, chosenFiles, droppedFiles, readFiles } from "./files.js";
+import { Allowance } from "./keeping.js";
 import { looksBy } from "./looks.js";
 import { node } from "./node.js";
 import { csvOf, save, zipOf } from "./saving.js";
@@ -10,17 +11,22 @@ import { csvOf, save, zipOf } from "./saving.js";
 const held = (id) => document.getElementById(id).textContent;
 const byId = (id) => document.getElementById(id);
 const bytesOf = (text) => Uint8Array.from(atob(text), (letter) => letter.charCodeAt(0));
-const latin = new TextDecoder("latin1"), utf8 = new TextEncoder();
+const utf8 = new TextEncoder();
 const refusals = JSON.parse(held("refusals")), lookOf = looksBy(JSON.parse(held("kinds")));
 const asking = new Asking(held("worker"), bytesOf(held("module")));
-// How many files are read ahead, how many cards come onto the wall at once, and how many names are shown of pages that
-// are the same.
-const READ_AHEAD = 32, MOST_FRESH = 24, SHOWN_SAME = 5;
-// The most bytes of a page that its player shows.
-const MOST_SHOWN = 1 << 20;
-const pages = [], groups = new Map(), waiting = new Map();
+// How many cards come onto the wall at once, and how many names are shown of pages that are the same.
+const MOST_FRESH = 24, SHOWN_SAME = 5;
+// What a card says of an accepted page without a canonical stream here.
+const NOT_MADE = "Its canonical stream isn't made: that takes more than the 64 MiB of memory that a page has here. So "
+  + "it isn't compared with other files.";
+const NOT_KEPT = "Its canonical stream isn't kept: with those of the other files it has more than 128 MiB.";
+const pages = [], groups = new Map();
+// The pages of pictures, and which pictures are in view and which are being painted.
+const pictures = new Map(), inView = new Set(), painting = new Set();
+const fileAllowance = new Allowance(), streamAllowance = new Allowance();
 const stem = (name) => name.replace(/\.[^./]*$/, "");
 const spell = (count, one, more = `${one}s`) => `${count.toLocaleString("en")} ${count === 1 ? one : more}`;
+const isAccepted = (page) => Boolean(page.answer?.accepted);
 const button = (word, action) => node("button", { type: "button", onclick: action }, word);
 
 // What is said of a refusal: of its code, or of the refusal alone.
@@ -31,20 +37,31 @@ const reasonOf = ({ number, name }) => {
 
 // ---- the wall
 
-// Pictures are asked for when their cards are seen first.
+// Pictures are asked for when their cards are seen, and let go when they aren't.
 const seen = new IntersectionObserver((entries) => {
   for (const { target, isIntersecting } of entries) {
-    if (!isIntersecting) continue;
-    seen.unobserve(target);
-    paint(target, waiting.get(target));
-    waiting.delete(target);
+    if (isIntersecting) {
+      inView.add(target);
+      paint(target, pictures.get(target));
+    } else {
+      inView.delete(target);
+      hide(target);
+    }
   }
 }, { rootMargin: "300px" });
 
+// A question on a page. A file whose bytes aren't kept is read again.
+const question = (ask, { bytes, file, own, name }) => ({ ask, words: name, ...(bytes ? { bytes } : { file, own }) });
+
 async function paint(image, page) {
-  const answer = await asking.ask({ ask: "svg", bytes: page.bytes, words: page.name });
-  if (answer.svg) show(image, answer.svg);
-  else image.alt = answer.tooLong ? `${page.name}: too long to be drawn here` : `${page.name}: ${answer.fault}`;
+  if (painting.has(image)) return;
+  painting.add(image);
+  const answer = await asking.ask(question("svg", page), false, () => inView.has(image));
+  painting.delete(image);
+  if (answer?.svg && inView.has(image)) show(image, answer.svg);
+  if (!answer || answer.svg) return;
+  seen.unobserve(image);
+  image.alt = answer.tooLong ? `${page.name}: too long to be drawn here` : `${page.name}: ${answer.fault}`;
 }
 
 // Shows a picture, as an image: what it has is drawn, and acts on nothing.
@@ -54,26 +71,38 @@ function show(image, svg) {
   image.src = address;
 }
 
+// The image of a page, which has no picture yet.
+function blank(page) {
+  const alt = `picture of ${page.name}`;
+  const image = node("img", { alt, width: 400, height: 313, className: "picture-of-page" });
+  pictures.set(image, page);
+  seen.observe(image);
+  return image;
+}
+
+// Puts a new image in the place of one, and so lets its picture go. (An image whose source is removed loses its size.)
+function hide(image) {
+  if (!image.hasAttribute("src")) return;
+  seen.unobserve(image);
+  image.replaceWith(blank(pictures.get(image)));
+  pictures.delete(image);
+}
+
 function card(page) {
-  const image = node("img", { alt: `picture of ${page.name}`, width: 400, height: 313, className: "picture-of-page" });
   const reason = page.answer && !page.answer.accepted ? reasonOf(page.answer) : null;
   page.same = node("p", { className: "dim" });
   const buttons = page.answer ? [button("Details", () => detail(page))] : [];
   if (page.canonical) buttons.push(button("Save canonical", () => save([page.canonical], `${stem(page.name)}.nap`)));
   if (page.answer) buttons.push(button("Save SVG", () => saveSvg(page)));
-  const made = node("article", { className: "card" }, ...(page.answer ? [image] : []),
-    node("h2", {}, page.name), node("p", { className: page.canonical ? "accepted" : "fault" }, page.told),
+  return node("article", { className: "card" }, ...(page.answer ? [blank(page)] : []),
+    node("h2", {}, page.name), node("p", { className: isAccepted(page) ? "accepted" : "fault" }, page.told),
+    ...(page.lack ? [node("p", {}, page.lack)] : []),
     ...(page.look ? [node("p", {}, `It looks like ${page.look}.`)] : []),
     ...(reason ? [node("p", {}, reason.means)] : []), page.same, node("div", { className: "bar" }, ...buttons));
-  if (page.answer) {
-    waiting.set(image, page);
-    seen.observe(image);
-  }
-  return made;
 }
 
 async function saveSvg(page) {
-  const answer = await asking.ask({ ask: "svg", bytes: page.bytes, words: page.name }, true);
+  const answer = await asking.ask(question("svg", page), true);
   if (answer.svg) save([answer.svg], `${stem(page.name)}.svg`, "image/svg+xml");
   else tell(`${page.name} has no picture here: ${answer.fault || "it is too long"}`);
 }
@@ -103,50 +132,40 @@ function tellSame() {
 
 // Says how many pages there are.
 function count() {
-  const accepted = pages.filter((page) => page.canonical).length;
+  const accepted = pages.filter(isAccepted).length, lacking = pages.filter((page) => page.lack).length;
   const equal = [...groups.values()].filter((group) => group.length > 1).length;
   tell(`${spell(pages.length, "file")}: ${accepted} accepted, ${pages.length - accepted} not; `
-    + `${spell(groups.size, "different page")}, ${equal} of them more than once`);
+    + `${spell(groups.size, "different page")}, ${equal} of them more than once`
+    + (lacking ? `; ${spell(lacking, "accepted page has", "accepted pages have")} no canonical stream here` : ""));
   for (const id of ["table", "zip"]) byId(id).disabled = !pages.length;
 }
 
-// The bytes of a file, or why there are none.
-async function bytesOfFile(file) {
-  if (file.size > MOST_FILE_BYTES) return { told: "not read: it is larger than 16 MiB" };
-  try {
-    return { bytes: new Uint8Array(await file.arrayBuffer()) };
-  } catch (error) {
-    return { told: `not read: ${error.message}` };
-  }
-}
-
-async function readFile(name, file, { bytes, told: why }) {
+// What is known of a file, with what of it is kept.
+async function pageOf({ name, file, bytes, told: why }) {
   if (!bytes) return { name, told: why, size: file.size };
-  const { answer, told, canonical, fault } = await asking.ask({ ask: "check", bytes });
+  const { answer, told, canonical, key, own, fault } = await asking.ask({ ask: "check", bytes });
   if (fault) return { name, told: fault, size: bytes.length };
-  return { name, bytes, answer, told, canonical, size: bytes.length, look: canonical ? "" : lookOf(bytes) };
+  const page = { name, file, own, answer, told, key, size: bytes.length, bytes: fileAllowance.take(bytes),
+    canonical: streamAllowance.take(canonical), look: answer.accepted ? "" : lookOf(bytes) };
+  return { ...page, lack: answer.accepted && !page.canonical ? (key ? NOT_KEPT : NOT_MADE) : "" };
 }
 
 // Keeps a page, and puts its card among those that come onto the wall together.
 function take(page, fresh) {
   pages.push(page);
   fresh.append(card(page));
-  if (!page.canonical) return;
-  const key = latin.decode(page.canonical);  // (two pages are the same exactly if these bytes are)
-  if (!groups.has(key)) groups.set(key, []);
-  groups.get(key).push(page);
+  if (!page.key) return;
+  if (!groups.has(page.key)) groups.set(page.key, []);
+  groups.get(page.key).push(page);
 }
 
-// Reads files, some of them ahead, since browsers read one after another slowly.
+// Reads files, and puts their cards onto the wall.
 async function add(all) {
-  const ahead = [], fresh = document.createDocumentFragment(), files = all.slice(0, MOST_FILES);
+  const fresh = document.createDocumentFragment(), files = all.slice(0, MOST_FILES);
   if (all.length > files.length) complain(`Only the first ${spell(MOST_FILES, "file")} of those are read.`);
   let last = performance.now();
-  for (const [at, [name, file]] of files.entries()) {
-    while (ahead.length < READ_AHEAD && at + ahead.length < files.length) {
-      ahead.push(bytesOfFile(files[at + ahead.length][1]));
-    }
-    take(await readFile(name, file, await ahead.shift()), fresh);
+  for await (const source of readFiles(files)) {
+    take(await pageOf(source), fresh);
     if (fresh.childElementCount >= MOST_FRESH || performance.now() - last > 500) {
       byId("wall").append(fresh);
       count();
@@ -162,21 +181,21 @@ async function add(all) {
 // ---- one page
 
 // What the player holds of a page. Its rows are the bytes up to each place at which entries came.
-function played(page, { places, lines, drawn }) {
-  const length = page.bytes.length, ends = places.map((place) => Math.min(place + 1, length));
+function played({ size: length }, { places, lines, drawn, beginning }) {
+  const ends = places.map((place) => Math.min(place + 1, length));
   const rows = [...new Set(ends)], rowOf = new Map(rows.map((end, at) => [end, at]));
   const codes = { start: rows.map((_, at) => (at ? rows[at - 1] : 0)), end: rows, name: rows.map(() => 0),
     names: ["bytes"], entry: ends.map((end) => rowOf.get(end)) };
   let bytes = "";
-  for (let at = 0; at < Math.min(length, MOST_SHOWN); at += 4096) {
-    bytes += String.fromCharCode(...page.bytes.subarray(at, Math.min(at + 4096, MOST_SHOWN)));
+  for (let at = 0; at < beginning.length; at += 4096) {
+    bytes += String.fromCharCode(...beginning.subarray(at, at + 4096));
   }
   return { length, before: 0, entries: lines.length, places, lines, codes, isCut: false, bytes: btoa(bytes),
     notes: [], drawing: drawn };
 }
 
 async function detail(page) {
-  const box = byId("detail"), answer = await asking.ask({ ask: "open", bytes: page.bytes }, true);
+  const box = byId("detail"), answer = await asking.ask(question("open", page), true);
   const reason = page.answer.accepted ? null : reasonOf(page.answer);
   const said = (name, text) => (text ? [node("p", {}, node("b", {}, name), ` ${text}`)] : []);
   const player = node("div", {}), close = button("Close", () => {
@@ -215,9 +234,8 @@ async function make() {
 
 function saveTable() {
   const numbers = new Map([...groups.keys()].map((key, at) => [key, at + 1]));
-  const rows = pages.map(({ name, size, answer, told, canonical }) => [name, size, told.split(" ")[0],
-    canonical ? answer.entries : "", answer?.number, answer?.name, canonical ? "" : answer?.place,
-    canonical ? numbers.get(latin.decode(canonical)) : ""]);
+  const rows = pages.map(({ name, size, answer, told, key }) => [name, size, told.split(" ")[0],
+    answer?.entries, answer?.number, answer?.name, answer?.place, numbers.get(key)]);
   const head = ["name", "bytes", "status", "entries", "number", "fault", "place", "same"];
   save([csvOf([head, ...rows])], "pages.csv", "text/csv");
 }

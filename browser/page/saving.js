@@ -28,19 +28,20 @@ function crcOf(bytes) {
 const numbers = (...pairs) => Uint8Array.from(pairs.flatMap(([value, size]) => (
   Array.from({ length: size }, (_, at) => value >>> 8 * at & 0xff))));
 
-// A name in a zip: no folder above, no half of a character, no name twice.
+// A name in a zip: no folder above, no half of a character, no name twice. `taken` has each name, and the last number
+// with which another was made of it.
 function zipName(name, taken) {
   const parts = name.split(/[\\/]/).filter((part) => part && part !== "." && part !== "..");
   const plain = parts.join("/").replace(/[\0-\x1f\x7f\p{Surrogate}]/gu, "_") || "page";
-  let free = plain;
-  for (let number = 2; taken.has(free); number++) free = `${plain} ${number}`;
-  taken.add(free);
+  let free = plain, number = taken.get(plain) ?? 1;
+  while (taken.has(free)) free = `${plain} ${++number}`;
+  taken.set(plain, number).set(free, 1);
   return free;
 }
 
 // The parts of a zip file of these files, each a name and bytes, which are stored as they are.
 function zipOf(files) {
-  const parts = [], central = [], taken = new Set();
+  const parts = [], central = [], taken = new Map();
   let at = 0;
   for (const [wanted, bytes] of files) {
     const name = encoder.encode(zipName(wanted, taken)), sum = crcOf(bytes);

@@ -22,8 +22,8 @@ function colourOf(ink, map) {
 }
 
 class Canvas {
-  constructor(grid, ground) {
-    Object.assign(this, { grid, inks: new Uint32Array(grid.wide * grid.high).fill(ground), counted: 0 });
+  constructor(grid, ground, Numbers = Uint32Array) {
+    Object.assign(this, { grid, inks: new Numbers(grid.wide * grid.high).fill(ground), counted: 0 });
   }
 
   // Paints in an ink; with a pattern what that sets: rows of dots that repeat from the lower left corner of the grid.
@@ -38,6 +38,11 @@ class Canvas {
       const dots = pattern[row % pattern.length];
       for (let dot = start; dot < end; dot++) if (dots[dot % dots.length]) this.inks[from + dot] = ink;
     }
+  }
+
+  // Paints one part after another in an ink.
+  paintParts(parts, ink) {
+    for (const part of parts) this.paint(part, ink);
   }
 }
 

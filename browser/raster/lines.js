@@ -2,7 +2,8 @@
 
 import { HALF, OF_ROW, UNIT, dotsOf, firstAt, modulo, over, overUp } from "./measure.js";
 
-const DASHES = [null, [1, 2], [5, 3], [5, 2, 1, 2]];
+// No line or dash is added to a part of so many spans.
+const DASHES = [null, [1, 2], [5, 3], [5, 2, 1, 2]], MOST_SPANS = 4096;
 
 function addBox(a, b, box, grid, spans) {
   const start = Math.max(firstAt(Math.min(a[0], b[0]) + box.left), 0);
@@ -35,28 +36,32 @@ function addSloping(from, to, box, grid, spans) {
   }
 }
 
-// What the pel paints along these segments, and how much that counts.
-function swept(segments, box, grid) {
-  const spans = [];
-  let counted = 0;
+// What the pel paints along these segments, and how much that counts, in parts: one line may be 256 dashes of 200 spans
+// each.
+function* swept(segments, box, grid) {
+  let spans = [], counted = 0;
   for (const [start, end] of segments) {
+    if (spans.length >= 3 * MOST_SPANS) {
+      yield { spans, counted: counted + dotsOf(spans) };
+      [spans, counted] = [[], 0];
+    }
     const before = spans.length;
     (start[0] === end[0] || start[1] === end[1] ? addBox : addSloping)(start, end, box, grid, spans);
     counted += OF_ROW * (1 + (spans.length - before) / 3);
   }
-  return { spans, counted: counted + dotsOf(spans) };
+  yield { spans, counted: counted + dotsOf(spans) };
 }
 
 const onLine = (start, end, at, long) => start.map((from, k) => from + over(2 * (end[k] - from) * at + long, 2 * long));
 
-function addDashes(start, end, at, dashes, unit, found) {
+function* dashesOf(start, end, at, dashes, unit) {
   const long = Math.max(Math.abs(end[0] - start[0]), Math.abs(end[1] - start[1]), 1);
   let down = -at;
   while (down < long) {
     for (let number = 0; number < dashes.length; number += 2) {
       const up = down + (dashes[number] - 1) * unit;
       if (down < long && up >= 0) {
-        found.push([onLine(start, end, Math.max(down, 0), long), onLine(start, end, Math.min(up, long), long)]);
+        yield [onLine(start, end, Math.max(down, 0), long), onLine(start, end, Math.min(up, long), long)];
       }
       down += (dashes[number] + dashes[number + 1]) * unit;
     }
@@ -64,23 +69,22 @@ function addDashes(start, end, at, dashes, unit, found) {
 }
 
 // What the pen is led along, from point to point: all of it, or the dashes.
-function segmentsOf(points, box, word) {
-  const dashes = DASHES[word & 3], found = [];
+function* segmentsOf(points, box, word) {
+  const dashes = DASHES[word & 3];
   let at = 0, unit = 0;
   for (let number = 0; number + 1 < points.length; number++) {
     const start = points[number], end = points[number + 1];
     if (!dashes) {
-      found.push([start, end]);
+      yield [start, end];
       continue;
     }
     const across = Math.abs(end[0] - start[0]), up = Math.abs(end[1] - start[1]);
     const side = across >= up ? box.right - box.left : box.high - box.low;
     at = unit ? over(at * side, unit) : 0;
     unit = side;
-    addDashes(start, end, at, dashes, unit, found);
+    yield* dashesOf(start, end, at, dashes, unit);
     at = modulo(at + Math.max(across, up), dashes.reduce((sum, each) => sum + each) * unit);
   }
-  return found;
 }
 
 export { segmentsOf, swept };

@@ -18,19 +18,19 @@ function outlineOf({ kind }, points) {
   return [[a, b], [c, b], [c, d], [a, d], [a, b]];
 }
 
-// What a shape paints.
+// What a shape paints, in parts.
 function painted(entry, scale) {
   const points = entry.points.map((at) => pointOn(at, scale)), { grid } = scale;
   if (isFilled(entry)) {
-    if (entry.kind === "RECT-FILLED") return filledBox(points[0], points[1], grid);
-    return inside(entry.kind === "ARC-FILLED" ? polyline(points) : points, grid);
+    if (entry.kind === "RECT-FILLED") return [filledBox(points[0], points[1], grid)];
+    return [inside(entry.kind === "ARC-FILLED" ? polyline(points) : points, grid)];
   }
   const box = pelBox([scaledSide(entry.pel[0], scale.wide), scaledSide(entry.pel[1], scale.high)]);
   if (entry.kind === "POINT") return swept([[points[0], points[0]]], box, grid);
   return swept(segmentsOf(outlineOf(entry, points), box, entry.texture.word), box, grid);
 }
 
-// The edge of an area, a dot thick.
+// The edge of an area, a dot thick, in parts.
 function edgeOf(entry, scale) {
   const around = outlineOf(entry, entry.points.map((at) => pointOn(at, scale))), [first] = around;
   const last = around[around.length - 1];

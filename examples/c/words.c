@@ -328,6 +328,7 @@ static int read_page(struct page *page, const uint8_t *bytes, size_t length, FIL
     for (size_t i = 0; i < sizeof header; i++) {
         if (i >= length || bytes[i] != header[i]) return refuse(page, "BadHeader", i);
     }
+    if (length > 3 && 0x40 <= bytes[3] && bytes[3] < 0x80) return refuse(page, "BadHeader", 3);
     page->at = 1;
     page->draws = 1;
     while (page->at < length) {

@@ -1,6 +1,6 @@
 // What browser/raster.js paints. The input is a line of JSON for each page, an array of lines of its list. With the
-// word `shapes` each line is a shape alone, and the answer for a page is the SHA-256 of its numbers: of each shape how
-// much it counts, and its spans. Otherwise it is that of the inks, how many entries are drawn, and what was counted.
+// word `shapes` each line is a shape alone, and the answer for a page is the SHA-256 of its numbers: of each part of a
+// shape how much it counts, and its spans. Otherwise it is that of the inks, how many entries are drawn, and what was counted.
 import { createHash } from "node:crypto";
 import { readFileSync } from "node:fs";
 import { entriesOf } from "../../browser/lines.mjs";
@@ -10,8 +10,9 @@ import { PAGE, painted } from "../../browser/raster/shapes.js";
 function shapesOf(entries) {
   const hash = createHash("sha256");
   for (const entry of entries) {
-    const { spans, counted } = painted(entry, PAGE);
-    hash.update(Buffer.from(Uint32Array.from([counted, spans.length / 3, ...spans]).buffer));
+    for (const { spans, counted } of painted(entry, PAGE)) {
+      hash.update(Buffer.from(Uint32Array.from([counted, spans.length / 3, ...spans]).buffer));
+    }
   }
   return hash.digest("hex");
 }

@@ -1,5 +1,5 @@
-"""The vectors of dots, which were written by hand from docs/RASTER.md: what the module paints, and JavaScript; and that
-the runner finds what is wrong."""
+"""The vectors of dots, most of which were made from docs/RASTER.md alone: what the module paints, and JavaScript; and
+that the runner finds what is wrong."""
 import os
 import subprocess
 import sys
@@ -16,6 +16,7 @@ sys.path.append(str(VECTORS))
 import dots  # noqa: E402
 
 FILES = sorted(VECTORS.glob("dots*.txt"))
+DRAWN = [it for name in ("dots.txt", "dots-moves.txt") for it in dots.vectors(VECTORS / name)]
 
 
 def program(folder, *words):
@@ -28,8 +29,7 @@ def program(folder, *words):
 
 def test_the_module_paints_what_the_vectors_have():
     every = [it for path in FILES for it in dots.vectors(path)]
-    by_hand = list(dots.vectors(VECTORS / "dots.txt"))
-    assert len(by_hand) >= 40 and all(it.rows for it in by_hand)
+    assert len(DRAWN) >= 110 and all(it.rows for it in DRAWN)
     assert len({it.name for it in every}) == len(every)
     for it in every:
         painted = raster([read_line(line) for line in it.lines])
@@ -37,6 +37,11 @@ def test_the_module_paints_what_the_vectors_have():
         colours = {ink: colour for ink, colour in painted.colours().items() if not ink & DIRECT}
         assert dots._wrong_dots(it, told) is None and dots._wrong_colours(it, told, colours) is None, it.name
         assert it.hash in ("", painted.hash())
+
+
+def test_each_move_has_a_vector():
+    words = [line.split() for it in DRAWN for line in it.lines]
+    assert {each[1] for each in words if each[0] == "MOVE"} == {"APB", "APF", "APD", "APU", "APR", "APH", "APS"}
 
 
 def test_the_runner_takes_the_module_and_tells_what_is_wrong(tmp_path):
@@ -54,5 +59,5 @@ def test_the_runner_takes_the_module_and_tells_what_is_wrong(tmp_path):
 @needs_node
 def test_the_javascript_paints_what_a_vector_has(tmp_path):
     path = program(tmp_path, "node", os.path.join(TOP, "browser", "list-dots.mjs"))
-    some = [it for it in dots.vectors(VECTORS / "dots.txt")][::8]
+    some = DRAWN[::8]
     assert [dots.wrong(path, it) for it in some] == [None] * len(some)

@@ -84,6 +84,10 @@ def slowly(entry, wide=256, high=200):
     return dots
 
 
+def spans_of_parts(parts):
+    return [span for part in parts for span in part.spans]
+
+
 def dots_of(spans):
     return {(dot, row) for row, start, end in spans for dot in range(start, end)}
 
@@ -94,7 +98,7 @@ def test_shapes_as_the_document_has_them(kind):
     # (many lines of an arc cost the slow painter much)
     for number in range(SHAPES if kind in KINDS[:7] else SHAPES // 10 + 10):
         entry = shape(chance, kind)
-        assert dots_of(shapes.painted(entry, PAGE).spans) == slowly(entry), (number, str(entry))
+        assert dots_of(spans_of_parts(shapes.painted(entry, PAGE))) == slowly(entry), (number, str(entry))
 
 
 def texts(rows):
@@ -150,7 +154,7 @@ def paint_slowly(monkeypatch):
         dots = set()
         for start, end in parts:
             dots |= slow.line(start, end, pel, *grid)
-        return spans_of(dots)
+        return iter([spans_of(dots)])
     monkeypatch.setattr(shapes, "pel_box", box)
     monkeypatch.setattr(shapes, "segments", segments)
     monkeypatch.setattr(shapes, "swept", swept)
@@ -179,7 +183,7 @@ def test_shapes_in_a_glyph_have_its_grid():
     half = nap.Point((ONE // 2, ONE // 2), (0, 0), OWN)
     scale = Scale(8, 10, Grid(8, 10))
     # (it is at the lower left corner of dot 4, 5 of 8 x 10 dots, and so in that dot)
-    assert shapes.painted(half, scale).spans == [(5, 4, 5)]
+    assert spans_of_parts(shapes.painted(half, scale)) == [(5, 4, 5)]
 
 
 RED, GREEN, WHITE, BLACK = 1 << 24 | 0xFF0000, 1 << 24 | 0x00FF00, 1 << 24 | 0xFFFFFF, 1 << 24
@@ -222,7 +226,13 @@ def test_the_last_entry_is_seen_and_clear_takes_all_away():
     assert {it.ink(i, j) for i in range(10) for j in range(10)} == {GREEN} and it.ink(10, 9) == BLACK
     assert set(painted(box + INK % ("own-start", "0/none"), "CLEAR pen=0,0").inks) == {BLACK}
     # (RESET with 2 for the screen fills with the colour of the entry before)
-    assert set(painted(box + INK % ("direct:0,65535,0", "0/none"), "RESET 16 0 pen=0,0").inks) == {RED}
+    red = box + INK % ("direct:0,65535,0", "0/none")
+    assert set(painted(red, "RESET 16 0 pen=0,0").inks) == {RED}
+    # (BLINK, BLINK-END and the marks hold a colour too; no entry of a definition counts)
+    green = "colour=direct:65535,0,0"
+    for line in ("BLINK 1048576 1,1,0 " + green, "BLINK-END " + green, "BLINK-STOP " + green):
+        assert set(painted(red, line, "RESET 16 0 pen=0,0").inks) == {GREEN}, line
+        assert set(painted(red, "MASK A", line, "END", "RESET 16 0 pen=0,0").inks) == {RED}, line
 
 
 def test_inks_of_the_map_take_the_last_colour():

@@ -21,6 +21,7 @@ from naplps.dots.walk import DotWalk
 from naplps.entry import read_line
 from pictures import picture
 from samples import needs_node
+from test_dot_vectors import DRAWN
 from test_raster import KINDS, shape
 
 pytestmark = needs_node
@@ -38,9 +39,9 @@ def said_of(lists, *words):
 
 
 def numbers(entry):
-    """How much a shape counts, how many spans it paints, and these."""
-    spans, counted = shapes.painted(entry, shapes.PAGE)
-    return [counted, len(spans), *(each for span in spans for each in span)]
+    """Of each part of a shape how much it counts, how many spans it paints, and these."""
+    return [number for spans, counted in shapes.painted(entry, shapes.PAGE)
+            for number in (counted, len(spans), *(each for span in spans for each in span))]
 
 
 @pytest.mark.parametrize("kind", KINDS)
@@ -75,6 +76,10 @@ def lines_of(page):
         return [str(entry) for entry in nap.entries(page)]
     except nap.Refused:
         return []
+
+
+def test_the_vectors():
+    assert_same([it.lines for it in DRAWN])
 
 
 def test_the_gallery():

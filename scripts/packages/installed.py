@@ -10,11 +10,16 @@ from shared.layout import LINK, File, write_files
 
 LIST = "lib/naplps/installed"
 MOST = 1 << 22
+# The most bytes of a file that this script installs; what is longer is of others, and isn't read.
+MOST_FILE = 1 << 28
+# How many bytes of a file are read at once.
+PIECE = 1 << 20
 LINE = re.compile(r"(?P<sum>[0-9a-f]{64})  (?P<file>.*[^/])|(?P<folder>.*[^/])/")
 
 
 class NotOurs(Exception):
-    """Something under the prefix isn't of this script, or a name leads out of the prefix. Nothing was changed."""
+    """Something under the prefix isn't of this script, a name leads out of the prefix, or a file is too long to be
+    installed. Nothing was changed."""
 
 
 def sum_of(file: File) -> str:
@@ -25,12 +30,22 @@ def sum_of(file: File) -> str:
 def standing(path: Path) -> Optional[str]:
     """The checksum of the file or link that stands there; None where nothing does, and else words that are none."""
     try:
-        mode = path.lstat().st_mode
+        status = path.lstat()
     except FileNotFoundError:
         return None
-    if stat.S_ISLNK(mode):
+    if stat.S_ISLNK(status.st_mode):
         return sum_of(File(os.fsencode(os.readlink(path)), LINK))
-    return sum_of(File(path.read_bytes(), 0)) if stat.S_ISREG(mode) else "neither a file nor a link"
+    if not stat.S_ISREG(status.st_mode):
+        return "neither a file nor a link"
+    return "too long" if status.st_size > MOST_FILE else _sum_by_pieces(path)
+
+
+def _sum_by_pieces(path: Path) -> str:
+    total = hashlib.sha256()
+    with path.open("rb") as file:
+        for piece in iter(lambda: file.read(PIECE), b""):
+            total.update(piece)
+    return total.hexdigest()
 
 
 class Installed:
@@ -76,6 +91,9 @@ class Installed:
     def put(self, files: Dict[str, File]) -> List[str]:
         """Installs these files in place of those that were installed. It tells which of those stay, since they were
         changed."""
+        for name, file in files.items():
+            if len(file.data) > MOST_FILE:
+                raise NotOurs(f"{name} has more than {MOST_FILE >> 20} MiB, so nothing was installed")
         wanted = {name: sum_of(file) for name, file in files.items()}
         foreign = [name for name, total in wanted.items()
                    if standing(self.place(name)) not in {None, total, *self.files.get(name, ())}]

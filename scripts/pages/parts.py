@@ -14,13 +14,14 @@ class Part(NamedTuple):
 PARTS: Dict[str, Part] = {
     "box": Part(
         "boxes of files of all kinds: what the command box makes is what eight commands make, and runs that are "
-        "killed, full disks and foreign files lose nothing; what an archivist asks first is one command each",
-        ("box", "wishes"),
+        "killed, full disks, foreign files and names that meet lose nothing; what strangers put into its folder; what "
+        "an archivist asks first is one command each",
+        ("box", "box_disks", "box_hostile", "box_names", "wishes"),
     ),
     "canonical": Part(
         "readers of canonical streams, in Python, JavaScript and C, beside the program, and the document of these; the "
         "drawing in JavaScript beside that in Python, the element for pages of the web, and the page in browsers",
-        ("canonical", "canonical_documents", "drawing_script", "element", "browser_page",
+        ("canonical", "canonical_documents", "drawing_script", "element", "fetching", "browser_page", "browser_memory",
          "browser_hostile", "firefox"),
     ),
     "collections": Part(
@@ -41,7 +42,7 @@ PARTS: Dict[str, Part] = {
         "what strangers hand in runs nothing, ends nothing and hides nothing: code of the current folder, numbers, "
         "stores, names; and lists of very many entries take little memory",
         ("interpreter", "environment", "outside_random", "served_random", "start", "proposed", "bounds", "extremes",
-         "beside_stores", "stores_hostile", "stores_random", "packs_random"),
+         "beside_stores", "others_beside", "stores_hostile", "stores_endless", "stores_random", "packs_random"),
     ),
     "house": Part(
         "the sources of naplps-pages: types, sizes, Python 3.9, messages; and that the manual page says what the tool "
@@ -61,9 +62,9 @@ PARTS: Dict[str, Part] = {
     ),
     "old-files": Part(
         "files as an old disk has them: signatures, kinds, the eight-bit form, the census, borders, captures, pages "
-        "planted in files of all sorts, pages after others",
-        ("signature", "file_kinds", "eight_bit", "census", "borders", "split", "planted", "carve", "after", "old_files",
-         "noise"),
+        "planted in files of all sorts, pages damaged by chance, pages after others",
+        ("signature", "file_kinds", "eight_bit", "census", "borders", "split", "planted", "around", "carve",
+         "carve_ends", "after", "old_files", "noise"),
     ),
     "packs": Part(
         "pages in tar, tar.gz and zip files: the same answers as in folders, and packs that are damaged or made to do "
@@ -92,7 +93,7 @@ PARTS: Dict[str, Part] = {
     "raster": Part(
         "the raster of a page: its rows beside a painter that goes dot by dot by docs/RASTER.md, and "
         "beside browser/raster.js; PNG of it, still and over time",
-        ("raster", "raster_script", "dots", "dot_vectors"),
+        ("raster", "raster_bounds", "raster_moves", "raster_script", "dots", "dot_vectors"),
     ),
     "sketches": Part(
         "sketches, and the gallery",

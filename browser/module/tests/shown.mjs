@@ -5,15 +5,18 @@ import {readFileSync} from "node:fs";
 import {csvOf, zipOf} from "../../page/saving.js";
 
 const [, , file, count, seed] = process.argv, data = readFileSync(0);
-let said;
-globalThis.self = {postMessage: (it) => { said = it; }};
+let take;
+globalThis.self = {postMessage: (message) => take(message)};
 await import("../../page/worker.js");
-const ask = (question) => {
-  self.onmessage({data: question});
-  if (said.fault) throw new Error(`${question.ask}: ${said.fault}`);
-  return said;
+const ask = async (question) => {
+  const answer = await new Promise((resolve) => {
+    take = resolve;
+    self.onmessage({data: question});
+  });
+  if (answer.fault) throw new Error(`${question.ask}: ${answer.fault}`);
+  return answer;
 };
-ask({number: 0, module: readFileSync(file)});
+await ask({number: 0, module: readFileSync(file)});
 
 const records = [], lists = [];
 for (let at = 0; at < data.length;) {
@@ -73,8 +76,9 @@ let longest = 0, pictures = 0, made = 0, faults = 0;
 for (let n = 0; n < Number(count); n++) {
   const bytes = changed(n % 2 ? records : lists), words = name(), began = performance.now();
   try {
-    ask({number: 1, ask: "check", bytes});
-    const {svg} = ask({number: 2, ask: "svg", bytes, words}), draft = n % 2 ? {} : ask({number: 3, ask: "make", bytes});
+    await ask({number: 1, ask: "check", bytes});
+    const {svg} = await ask({number: 2, ask: "svg", bytes, words});
+    const draft = n % 2 ? {} : await ask({number: 3, ask: "make", bytes});
     pictures += Boolean(svg);
     made += Boolean(draft.canonical);
     const wrong = strange(svg || "") || strange(draft.svg || "") || (n % 64 ? "" : wrongSaved([words, name(), words]));

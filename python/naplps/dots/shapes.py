@@ -5,20 +5,30 @@ from ..entry import Arc, Line, Point, Poly, Position, Rect, Texture
 from .surface import ACROSS, HALF, OF_ROW, SCREEN, UNIT, Box, Grid, Painted, Span, first, pel_box
 
 Segment = Tuple[Position, Position]
+# No line or dash is added to a part of so many spans.
+MOST_SPANS = 4096
 
 
-def swept(segments: Iterable[Segment], box: Box, grid: Grid) -> Painted:
-    """What the pel paints along these segments."""
+def dots_of(spans: Sequence[Span]) -> int:
+    """How many dots spans have."""
+    return sum([end - start for _, start, end in spans])
+
+
+def swept(segments: Iterable[Segment], box: Box, grid: Grid) -> Iterator[Painted]:
+    """What the pel paints along these segments, in parts: one line may be 256 dashes of 200 spans each."""
     spans: List[Span] = []
     counted = 0
     for start, end in segments:
+        if len(spans) >= MOST_SPANS:
+            yield Painted(spans, counted + dots_of(spans))
+            spans, counted = [], 0
         before = len(spans)
         if start[0] == end[0] or start[1] == end[1]:
             _box(start, end, box, grid, spans)
         else:
             _sloping(start, end, box, grid, spans)
         counted += OF_ROW * (1 + len(spans) - before)
-    return Painted(spans, counted + sum([end - start for _, start, end in spans]))
+    yield Painted(spans, counted + dots_of(spans))
 
 
 def _box(a: Position, b: Position, box: Box, grid: Grid, spans: List[Span]) -> None:
@@ -201,7 +211,7 @@ def filled_box(a: Position, b: Position, grid: Grid) -> Painted:
     start, end = max(first(left), 0), min(first(left + wide), grid.wide)
     rows = range(max(first(low), 0), min(first(low + high), grid.high))
     spans = [(row, start, end) for row in rows] if start < end else []
-    return Painted(spans, OF_ROW * (4 + len(spans)) + sum([end - start for _, start, end in spans]))
+    return Painted(spans, OF_ROW * (4 + len(spans)) + dots_of(spans))
 
 
 # Where the pen goes down and up in a period, and how long that is.
@@ -289,20 +299,20 @@ def is_filled(entry: Shape) -> bool:
     return isinstance(entry, (Rect, Poly, Arc)) and entry.filled
 
 
-def painted(entry: Shape, scale: Scale) -> Painted:
-    """What a shape paints."""
+def painted(entry: Shape, scale: Scale) -> Iterator[Painted]:
+    """What a shape paints, in parts."""
     points = [scale.point(at) for at in entry.points] if scale is not PAGE else list(entry.points)
     if is_filled(entry):
         if isinstance(entry, Rect):
-            return filled_box(points[0], points[1], scale.grid)
-        return inside(polyline(points) if isinstance(entry, Arc) else points, scale.grid)
+            return iter([filled_box(points[0], points[1], scale.grid)])
+        return iter([inside(polyline(points) if isinstance(entry, Arc) else points, scale.grid)])
     box = pel_box(scale.pel(entry.pel) if scale is not PAGE else entry.pel)
     if isinstance(entry, Point):
         return swept([(points[0], points[0])], box, scale.grid)
     return swept(segments(_outline(entry, points), box, entry.texture), box, scale.grid)
 
 
-def edge(entry: Union[Rect, Poly, Arc], scale: Scale) -> Painted:
+def edge(entry: Union[Rect, Poly, Arc], scale: Scale) -> Iterator[Painted]:
     """The edge of an area, a dot thick."""
     points = [scale.point(at) for at in entry.points]
     around = _outline(entry, points)

@@ -1,7 +1,7 @@
 """The canvas of dots: its lengths, its inks, and the patterns that fill areas."""
 from array import array
 from functools import lru_cache
-from typing import Dict, List, NamedTuple, Optional, Sequence, Tuple
+from typing import Dict, Iterable, List, NamedTuple, Optional, Sequence, Tuple
 
 from ..drawing.colours import FIRST
 from ..entry import ONE, Colour, Position, Texture
@@ -119,11 +119,14 @@ class Pattern:
 
 
 class Canvas:
-    """Dots of a grid, row by row from the lowest, and how much was counted for what was painted."""
+    """Dots of a grid, row by row from the lowest, and how much was counted for what was painted.
 
-    def __init__(self, grid: Grid, ground: int) -> None:
+    The type code of `array` is that of inks, or "B" for numbers of one byte.
+    """
+
+    def __init__(self, grid: Grid, ground: int, typecode: str = "I") -> None:
         self.grid = grid
-        self.inks = array("I", [ground]) * (grid.wide * grid.high)
+        self.inks = array(typecode, [ground]) * (grid.wide * grid.high)
         self.counted = 0
         self._solid: Dict[int, "array[int]"] = {}
 
@@ -136,16 +139,21 @@ class Canvas:
             at = row * wide
             inks[at + start:at + end] = solid[:end - start]
 
+    def paint_parts(self, parts: Iterable[Painted], ink: int) -> None:
+        """Paints one part after another in an ink."""
+        for part in parts:
+            self.paint(part, ink)
+
     def fill(self, ink: int) -> None:
         """Fills all with an ink."""
-        self.inks = array("I", [ink]) * len(self.inks)
+        self.inks = array(self.inks.typecode, [ink]) * len(self.inks)
 
     def _row_of(self, ink: int) -> "array[int]":
         solid = self._solid.get(ink)
         if solid is None:
             if len(self._solid) >= 256:
                 self._solid.clear()
-            solid = self._solid[ink] = array("I", [ink]) * self.grid.wide
+            solid = self._solid[ink] = array(self.inks.typecode, [ink]) * self.grid.wide
         return solid
 
 

@@ -22,6 +22,10 @@ SHAPES = (Point, Line, Rect, Poly, Arc)
 TO_BLACK, TO_COLOUR = (1, 7), (2, 5, 6)
 # In a glyph or a mask: what is drawn, and the black edge of an area.
 NOTHING, DRAWN, EDGE = 0, 1, 2
+# How much is kept of pictures of glyphs and masks; each row counts as its dots and so many more.
+MOST_KEPT, OF_KEPT_ROW = 1 << 22, 256
+# Each byte as a binary digit: whether it is the value.
+DIGITS = {value: bytes(ord("1" if byte == value else "0") for byte in range(256)) for value in (DRAWN, EDGE)}
 BOX = rows_of("\u25a1")
 Numbered = Tuple[int, Entry]
 
@@ -86,14 +90,14 @@ class DefinitionPainter(Painter):
     """Paints a glyph or a mask, all in what uses it."""
 
     def __init__(self, grid: Grid, entries: Sequence[Entry]) -> None:
-        super().__init__(Scale(grid.wide, grid.high, grid), Canvas(grid, NOTHING), entries)
+        super().__init__(Scale(grid.wide, grid.high, grid), Canvas(grid, NOTHING, "B"), entries)
         self.writing.cursor.enter_glyph()
 
     def shape(self, entry: Shape) -> None:
         """Paints a shape without a pattern."""
-        self.canvas.paint(shapes.painted(entry, self.scale), DRAWN)
+        self.canvas.paint_parts(shapes.painted(entry, self.scale), DRAWN)
         if isinstance(entry, (Rect, Poly, Arc)) and entry.filled and entry.texture.word & 4:
-            self.canvas.paint(shapes.edge(entry, self.scale), EDGE)
+            self.canvas.paint_parts(shapes.edge(entry, self.scale), EDGE)
 
     def put(self, sign: Sign) -> None:
         """Paints a character; a glyph is a box here."""
@@ -119,9 +123,11 @@ class DefinitionPainter(Painter):
         return Picture(self._rows(DRAWN), self._rows(EDGE), canvas.counted)
 
     def _rows(self, value: int) -> Rows:
-        wide, dots = self.scale.grid.wide, self.canvas.inks
-        bits = "".join("1" if ink == value else "0" for ink in dots)
-        return tuple(int(bits[at:at + wide], 2) for at in range(0, len(bits), wide))
+        (wide, high), dots = self.scale.grid, self.canvas.inks.tobytes()
+        if value not in dots:
+            return (0,) * high
+        digits = dots.translate(DIGITS[value])
+        return tuple(int(digits[at:at + wide], 2) for at in range(0, len(digits), wide))
 
 
 class PagePainter(Painter):
@@ -133,21 +139,19 @@ class PagePainter(Painter):
         self.glyphs: Dict[int, Body] = {}
         self.masks: Dict[str, Body] = {}
         self._pictures: Dict[Tuple[int, Grid], Picture] = {}
+        self._kept = 0
 
     def shape(self, entry: Shape) -> None:
         """Paints a shape, with its texture."""
         front, canvas = surface.front(entry.colour) | self.mark, self.canvas
-        it = shapes.painted(entry, self.scale)
         pattern = self._pattern(entry) if shapes.is_filled(entry) else None
-        if pattern is None:
-            canvas.paint(it, front)
-        else:
-            behind = surface.back(entry.colour)
+        behind = None if pattern is None else surface.back(entry.colour)
+        for part in shapes.painted(entry, self.scale):
             if behind is not None:
-                canvas.paint(it._replace(counted=0), behind | self.mark)
-            canvas.paint(it, front, pattern)
+                canvas.paint(part._replace(counted=0), behind | self.mark)
+            canvas.paint(part, front, pattern)
         if isinstance(entry, (Rect, Poly, Arc)) and entry.filled and entry.texture.word & 4:
-            canvas.paint(shapes.edge(entry, self.scale), BLACK | self.mark)
+            canvas.paint_parts(shapes.edge(entry, self.scale), BLACK | self.mark)
 
     def _pattern(self, entry: Shape) -> Optional[Pattern]:
         """The pattern of an area; None where it is solid."""
@@ -163,12 +167,21 @@ class PagePainter(Painter):
     def _picture(self, body: Body, grid: Grid) -> Picture:
         """The picture of a glyph or a mask, which counts whenever it is used."""
         canvas = self.canvas
-        kept = self._pictures.get((body.number, grid))
-        if kept is None or canvas.counted + kept.counted >= MOST_COUNTED:
-            painter = DefinitionPainter(grid, self.entries)
-            kept = self._pictures[body.number, grid] = painter.picture(body, MOST_COUNTED - canvas.counted)
-        canvas.counted += kept.counted
-        return kept
+        picture = self._pictures.get((body.number, grid))
+        if picture is None or canvas.counted + picture.counted >= MOST_COUNTED:
+            picture = DefinitionPainter(grid, self.entries).picture(body, MOST_COUNTED - canvas.counted)
+            self._keep(body, grid, picture)
+        canvas.counted += picture.counted
+        return picture
+
+    def _keep(self, body: Body, grid: Grid, picture: Picture) -> None:
+        """Keeps a picture; those before it are dropped where that would be too much."""
+        size = grid.high * (grid.wide + OF_KEPT_ROW)
+        if self._kept + size > MOST_KEPT:
+            self._pictures.clear()
+            self._kept = 0
+        self._pictures[body.number, grid] = picture
+        self._kept += size
 
     def put(self, sign: Sign) -> None:
         """Paints a character in its cell."""
@@ -233,6 +246,8 @@ class DotWalk:
 
     def _entry(self, number: int, entry: Entry) -> None:
         page = self.page
+        if self.definition is None:
+            self.colour = getattr(entry, "colour", self.colour)
         if isinstance(entry, (GlyphStart, MaskStart)):
             page.writing.flush()
             self.definition, self.body = entry, []
@@ -244,7 +259,6 @@ class DotWalk:
         elif self.definition is not None:
             self.body.append((number, entry))
         else:
-            self.colour = getattr(entry, "colour", self.colour)
             if isinstance(entry, Clear):
                 page.writing.flush()
                 page.canvas.fill(BLACK)

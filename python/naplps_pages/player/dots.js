@@ -610,8 +610,8 @@ function colourOf(ink, map) {
 }
 
 class Canvas {
-  constructor(grid, ground) {
-    Object.assign(this, { grid, inks: new Uint32Array(grid.wide * grid.high).fill(ground), counted: 0 });
+  constructor(grid, ground, Numbers = Uint32Array) {
+    Object.assign(this, { grid, inks: new Numbers(grid.wide * grid.high).fill(ground), counted: 0 });
   }
 
   paint({ spans, counted }, ink, pattern = null) {
@@ -625,6 +625,10 @@ class Canvas {
       const dots = pattern[row % pattern.length];
       for (let dot = start; dot < end; dot++) if (dots[dot % dots.length]) this.inks[from + dot] = ink;
     }
+  }
+
+  paintParts(parts, ink) {
+    for (const part of parts) this.paint(part, ink);
   }
 }
 
@@ -765,7 +769,7 @@ return { polyline };
 const module9 = (() => {
 const { HALF, OF_ROW, UNIT, dotsOf, firstAt, modulo, over, overUp } = module3;
 
-const DASHES = [null, [1, 2], [5, 3], [5, 2, 1, 2]];
+const DASHES = [null, [1, 2], [5, 3], [5, 2, 1, 2]], MOST_SPANS = 4096;
 
 function addBox(a, b, box, grid, spans) {
   const start = Math.max(firstAt(Math.min(a[0], b[0]) + box.left), 0);
@@ -798,50 +802,52 @@ function addSloping(from, to, box, grid, spans) {
   }
 }
 
-function swept(segments, box, grid) {
-  const spans = [];
-  let counted = 0;
+function* swept(segments, box, grid) {
+  let spans = [], counted = 0;
   for (const [start, end] of segments) {
+    if (spans.length >= 3 * MOST_SPANS) {
+      yield { spans, counted: counted + dotsOf(spans) };
+      [spans, counted] = [[], 0];
+    }
     const before = spans.length;
     (start[0] === end[0] || start[1] === end[1] ? addBox : addSloping)(start, end, box, grid, spans);
     counted += OF_ROW * (1 + (spans.length - before) / 3);
   }
-  return { spans, counted: counted + dotsOf(spans) };
+  yield { spans, counted: counted + dotsOf(spans) };
 }
 
 const onLine = (start, end, at, long) => start.map((from, k) => from + over(2 * (end[k] - from) * at + long, 2 * long));
 
-function addDashes(start, end, at, dashes, unit, found) {
+function* dashesOf(start, end, at, dashes, unit) {
   const long = Math.max(Math.abs(end[0] - start[0]), Math.abs(end[1] - start[1]), 1);
   let down = -at;
   while (down < long) {
     for (let number = 0; number < dashes.length; number += 2) {
       const up = down + (dashes[number] - 1) * unit;
       if (down < long && up >= 0) {
-        found.push([onLine(start, end, Math.max(down, 0), long), onLine(start, end, Math.min(up, long), long)]);
+        yield [onLine(start, end, Math.max(down, 0), long), onLine(start, end, Math.min(up, long), long)];
       }
       down += (dashes[number] + dashes[number + 1]) * unit;
     }
   }
 }
 
-function segmentsOf(points, box, word) {
-  const dashes = DASHES[word & 3], found = [];
+function* segmentsOf(points, box, word) {
+  const dashes = DASHES[word & 3];
   let at = 0, unit = 0;
   for (let number = 0; number + 1 < points.length; number++) {
     const start = points[number], end = points[number + 1];
     if (!dashes) {
-      found.push([start, end]);
+      yield [start, end];
       continue;
     }
     const across = Math.abs(end[0] - start[0]), up = Math.abs(end[1] - start[1]);
     const side = across >= up ? box.right - box.left : box.high - box.low;
     at = unit ? over(at * side, unit) : 0;
     unit = side;
-    addDashes(start, end, at, dashes, unit, found);
+    yield* dashesOf(start, end, at, dashes, unit);
     at = modulo(at + Math.max(across, up), dashes.reduce((sum, each) => sum + each) * unit);
   }
-  return found;
 }
 return { segmentsOf, swept };
 })();
@@ -867,8 +873,8 @@ function outlineOf({ kind }, points) {
 function painted(entry, scale) {
   const points = entry.points.map((at) => pointOn(at, scale)), { grid } = scale;
   if (isFilled(entry)) {
-    if (entry.kind === "RECT-FILLED") return filledBox(points[0], points[1], grid);
-    return inside(entry.kind === "ARC-FILLED" ? polyline(points) : points, grid);
+    if (entry.kind === "RECT-FILLED") return [filledBox(points[0], points[1], grid)];
+    return [inside(entry.kind === "ARC-FILLED" ? polyline(points) : points, grid)];
   }
   const box = pelBox([scaledSide(entry.pel[0], scale.wide), scaledSide(entry.pel[1], scale.high)]);
   if (entry.kind === "POINT") return swept([[points[0], points[0]]], box, grid);
@@ -1256,6 +1262,7 @@ const { isWritten } = module13;
 const { DotWriting } = module14;
 
 const TO_BLACK = [1, 7], TO_COLOUR = [2, 5, 6], NOTHING = 0, DRAWN = 1, EDGE = 2, BOX = rowsOf("\u25a1");
+const MOST_KEPT = 1 << 22, OF_KEPT_ROW = 256;
 const uncounted = (spans) => ({ spans, counted: 0 });
 const hasEdge = (entry) => isFilled(entry) && (entry.texture.word & 4) !== 0;
 
@@ -1290,15 +1297,22 @@ class Painter {
   }
 }
 
+function rowsThatAre(value, { inks, grid: { wide, high } }) {
+  if (!inks.includes(value)) return new Array(high).fill(new Uint8Array(wide));
+  const dots = new Uint8Array(inks.length);
+  for (let at = 0; at < dots.length; at++) dots[at] = Number(inks[at] === value);
+  return Array.from({ length: high }, (_, row) => dots.subarray(row * wide, (row + 1) * wide));
+}
+
 class DefinitionPainter extends Painter {
   constructor(grid, entries) {
-    super({ ...grid, grid }, new Canvas(grid, NOTHING), entries);
+    super({ ...grid, grid }, new Canvas(grid, NOTHING, Uint8Array), entries);
     this.writing.cursor.enterGlyph();
   }
 
   shape(entry) {
-    this.canvas.paint(painted(entry, this.scale), DRAWN);
-    if (hasEdge(entry)) this.canvas.paint(edgeOf(entry, this.scale), EDGE);
+    this.canvas.paintParts(painted(entry, this.scale), DRAWN);
+    if (hasEdge(entry)) this.canvas.paintParts(edgeOf(entry, this.scale), EDGE);
   }
 
   put(sign) {
@@ -1308,31 +1322,31 @@ class DefinitionPainter extends Painter {
   }
 
   picture(body, most) {
-    const { canvas, scale: { wide, high } } = this;
+    const { canvas } = this;
     for (const [number, entry] of body) {
       if (canvas.counted >= most) break;
       canvas.counted += OF_ENTRY;
       this.paint(number, entry);
     }
     this.writing.flush();
-    const rows = (value) => Array.from({ length: high }, (_, row) => (
-      Uint8Array.from(canvas.inks.subarray(row * wide, (row + 1) * wide), (ink) => Number(ink === value))));
-    return { drawn: rows(DRAWN), edge: rows(EDGE), counted: canvas.counted };
+    return { drawn: rowsThatAre(DRAWN, canvas), edge: rowsThatAre(EDGE, canvas), counted: canvas.counted };
   }
 }
 
 class PagePainter extends Painter {
   constructor(entries) {
     super(PAGE, new Canvas(SCREEN, BLACK), entries);
-    Object.assign(this, { mark: 0, glyphs: new Map(), masks: new Map() });
+    Object.assign(this, { mark: 0, glyphs: new Map(), masks: new Map(), pictures: new Map(), kept: 0 });
   }
 
   shape(entry) {
-    const { canvas, mark } = this, front = frontInk(entry.colour) | mark, it = painted(entry, this.scale);
-    const pattern = isFilled(entry) ? this.pattern(entry.texture) : null, behind = backInk(entry.colour);
-    if (pattern && behind !== null) canvas.paint(uncounted(it.spans), behind | mark);
-    canvas.paint(it, front, pattern);
-    if (hasEdge(entry)) canvas.paint(edgeOf(entry, this.scale), BLACK | mark);
+    const { canvas, mark } = this, front = frontInk(entry.colour) | mark, behind = backInk(entry.colour);
+    const pattern = isFilled(entry) ? this.pattern(entry.texture) : null;
+    for (const part of painted(entry, this.scale)) {
+      if (pattern && behind !== null) canvas.paint(uncounted(part.spans), behind | mark);
+      canvas.paint(part, front, pattern);
+    }
+    if (hasEdge(entry)) canvas.paintParts(edgeOf(entry, this.scale), BLACK | mark);
   }
 
   pattern({ word, mask }) {
@@ -1344,14 +1358,24 @@ class PagePainter extends Painter {
   }
 
   picture(body, grid) {
-    const { canvas } = this, key = `${grid.wide} ${grid.high}`;
-    let kept = body.pictures.get(key);
-    if (!kept || canvas.counted + kept.counted >= MOST_COUNTED) {
-      kept = new DefinitionPainter(grid, this.entries).picture(body.entries, MOST_COUNTED - canvas.counted);
-      body.pictures.set(key, kept);
+    const { canvas } = this, key = `${body.number} ${grid.wide} ${grid.high}`;
+    let picture = this.pictures.get(key);
+    if (!picture || canvas.counted + picture.counted >= MOST_COUNTED) {
+      picture = new DefinitionPainter(grid, this.entries).picture(body.entries, MOST_COUNTED - canvas.counted);
+      this.keep(key, grid, picture);
     }
-    canvas.counted += kept.counted;
-    return kept;
+    canvas.counted += picture.counted;
+    return picture;
+  }
+
+  keep(key, { wide, high }, picture) {
+    const size = high * (wide + OF_KEPT_ROW);
+    if (this.kept + size > MOST_KEPT) {
+      this.pictures.clear();
+      this.kept = 0;
+    }
+    this.pictures.set(key, picture);
+    this.kept += size;
   }
 
   put(sign) {
@@ -1380,7 +1404,7 @@ class Raster {
   constructor(entries) {
     this.entries = entries;
     this.page = new PagePainter(entries);
-    Object.assign(this, { drawn: 0, map: new Map(), definition: null, body: [], saved: null });
+    Object.assign(this, { drawn: 0, map: new Map(), definition: null, body: [], bodies: 0, saved: null });
     this.colour = { kind: "own-start", value: null, addresses: [] };
   }
 
@@ -1407,6 +1431,7 @@ class Raster {
 
   entry(number, entry) {
     const { page } = this, { kind } = entry;
+    if (entry.colour && !this.definition) this.colour = entry.colour;
     if (kind === "GLYPH" || kind === "MASK") {
       page.writing.flush();
       Object.assign(this, { definition: entry, body: [], saved: page.writing.cursor.saved() });
@@ -1417,7 +1442,6 @@ class Raster {
     } else if (this.definition) {
       this.body.push([number, entry]);
     } else {
-      if (entry.colour) this.colour = entry.colour;
       if (kind === "CLEAR" || kind === "RESET") {
         page.writing.flush();
         this.clear(entry);
@@ -1444,7 +1468,7 @@ class Raster {
     this.definition = null;
     if (!definition) return;
     page.writing.cursor.putBack(this.saved);
-    const body = { entries: this.body, pictures: new Map() };
+    const body = { number: this.bodies++, entries: this.body };
     if (definition.kind === "GLYPH") page.glyphs.set(definition.character, body);
     else page.masks.set(definition.mask, body);
   }
