@@ -28,7 +28,7 @@ complete -c naplps-pages -n __fish_use_subcommand -a help -d 'List the commands,
 complete -c naplps-pages -n '__fish_seen_subcommand_from box' -l into -r -d 'The folder of all that is found'
 complete -c naplps-pages -n '__fish_seen_subcommand_from box scan' -l no-words -d 'Keep no text of pages, so that find finds none'
 complete -c naplps-pages -n '__fish_seen_subcommand_from box scan' -l no-cures -d 'Try no treatments of refused pages'
-complete -c naplps-pages -n '__fish_seen_subcommand_from box' -l no-carve -d 'Look for no pages inside files of no known kind'
+complete -c naplps-pages -n '__fish_seen_subcommand_from box' -l no-carve -d 'Carve no pages out of refused files'
 complete -c naplps-pages -n '__fish_seen_subcommand_from box scan equal report near' -l processes -x -d 'How many processes work'
 complete -c naplps-pages -n '__fish_seen_subcommand_from box scan near check look explain cures list canon text describe play diff census split carve source' -l budget -x -d 'How many bytes of macro bodies a page may be charged'
 complete -c naplps-pages -n '__fish_seen_subcommand_from box scan equal report serve near check look explain cures list canon text describe play diff census split carve make source' -l seconds -x -d 'How many seconds the program may take for a page'

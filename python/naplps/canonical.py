@@ -359,6 +359,8 @@ def read(stream: bytes) -> Iterator[CanonicalEntry]:
         if stream[place:place + 1] != bytes((expected,)):
             raise NotCanonical("BadHeader", place)
     reader = _Reader(bytes(stream))
+    if b"\x40" <= reader.stream[len(HEADER):len(HEADER) + 1] < b"\x80":
+        raise NotCanonical("BadHeader", len(HEADER))
     while reader.at < len(reader.stream):
         yield from reader.code()
     if reader.saved:

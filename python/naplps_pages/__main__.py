@@ -36,7 +36,9 @@ def _run(command: str) -> NoReturn:
 
 
 def _end(status: int) -> NoReturn:
-    """Ends with a status, after the last of the output."""
+    """Ends with a status, after the last of the output. Raises Stopped where a signal came that hasn't ended it."""
+    if ENDING.number is not None:
+        raise Stopped(ENDING.number)
     try:
         sys.stdout.flush()
     except BrokenPipeError:

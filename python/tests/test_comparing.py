@@ -83,8 +83,12 @@ def test_the_document(run, tmp_path):
 
 def test_pages_that_cannot_be_compared(run, tmp_path):
     good = made(run, tmp_path, "good.nap", "BELL")
-    refused = run(["diff", good, file(tmp_path, "refused.nap", OUTSIDE)])
-    assert (refused.returncode, refused.stdout) == (3, b"") and b"only an accepted page has a source" in refused.stderr
+    bad = file(tmp_path, "refused.nap", OUTSIDE)
+    for pages in ([good, bad], [bad, good], [bad, bad]):
+        refused = run(["diff", *pages])
+        assert (refused.returncode, refused.stdout) == (1, b"")
+        assert refused.stderr.decode().splitlines() == [
+            f"naplps-pages: {bad}: refused 10 Outside at 3; only an accepted page has a source"] * pages.count(bad)
     bomb = run(["diff", file(tmp_path, "bomb.nap", BOMB), good])
     assert (bomb.returncode, bomb.stdout) == (3, b"") and b"more than 200000 entries" in bomb.stderr
     long = run(["diff", good, made(run, tmp_path, "long.nap", "BELL\n" * (MOST_LINES + 1))])

@@ -10,10 +10,13 @@ from urllib.request import urlopen
 import pytest
 
 from conftest import COMMAND, TOP, file
+from naplps.answers import Refusal
+from naplps_pages.codes import stop_of
 from packers import pack
 from samples import POINT, with_parity
 from spelled import logo
 
+BORDERS = ("docs/STORE.md", "docs/COLLECTIONS.md", "man/naplps-pages.1")
 STARTS = (("README.md", "    ", "pages/naplps-pages "), ("README.md", "    ", "./naplps "),
           ("docs/COLLECTIONS.md", "    ", "naplps-pages "),
           ("man/naplps-pages.1", "$ ", "naplps-pages "))
@@ -32,6 +35,23 @@ def shown():
         for line in read(name).splitlines():
             if line.startswith(margin + start):
                 yield line[len(margin):]
+
+
+def test_readme_says_which_of_the_first_commands_needs_python():
+    before, commands = read("README.md").partition("## Get it")[2].split("\n\n    ", 1)
+    first = [line.split()[0] for line in commands.split("\n\n")[0].splitlines()]
+    assert ["python3" in read(name).splitlines()[0] for name in first] == [False, True]
+    assert "with Python for the second" in " ".join(before.split())
+
+
+@pytest.mark.parametrize("name", BORDERS)
+def test_documents_call_a_designation_by_its_name(name):
+    """By ISO 2022 1B 22 designates a C1 set, and an announcer begins with 1B 20."""
+    stop = stop_of(b"\x1b\x22\x46", Refusal(2, "BadEscape", None, 1))
+    assert stop == "1B 22 46 (designation of a C1 set)"
+    found = re.findall(r"((?:\S+ ){3})`?1B 22 46([^`.,]*)", " ".join(read(name).split()))
+    assert found and all("designation" in before + after and "announcer" not in before + after
+                         for before, after in found)
 
 
 @pytest.fixture

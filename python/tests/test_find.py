@@ -108,7 +108,7 @@ def test_words_are_asked_for_once(run, tmp_path):
     assert b"; 0 known, 6 pages asked about" in run(["scan", top, "--into", store]).stdout
     said = run(["find", "hockey", store])
     assert (said.returncode, said.stderr.decode()) == (
-        3, "naplps-pages: %s: has no texts: `naplps-pages scan --words` keeps them\n" % store)
+        3, "naplps-pages: %s: has no texts: a scan into a new store keeps them, without --no-words\n" % store)
     assert b"; 0 known, 6 pages asked about" in run(["scan", top, "--into", store, "--words"]).stdout
     assert b"; 7 known, 0 pages asked about" in run(["scan", top, "--into", store, "--words"]).stdout
     assert b"; 7 known, 0 pages asked about" in run(["scan", top, "--into", store]).stdout
@@ -165,7 +165,7 @@ def test_pages_without_a_text_are_counted(run, store, change, pages):
     connection.close()
     lacking = f"{pages} page{'s have' if pages > 1 else ' has'} no text kept, and can't be found"
     assert run(["find", "hockey", store]).stderr.decode() == (
-        f"naplps-pages: {store}: {lacking}: a scan with --words keeps it\n" if pages else "")
+        f"naplps-pages: {store}: {lacking}: the next scan keeps it\n" if pages else "")
 
 
 def test_texts_of_others_are_bounded(run, store):

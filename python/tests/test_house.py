@@ -172,11 +172,13 @@ def test_types(tmp_path):
 
 
 # What apt-get prints before it installs.
-APT = """#!/bin/sh
+APT_PRINTS = """0 upgraded, 112 newly installed, 0 to remove and 0 not upgraded.
+Need to get 97.3 MB/98.1 MB of archives.
+After this operation, 402 MB of additional disk space will be used.
+"""
+APT = f"""#!/bin/sh
 echo "$@" >> "$0.asked"
-echo '0 upgraded, 112 newly installed, 0 to remove and 0 not upgraded.'
-echo 'Need to get 97.3 MB/98.1 MB of archives.'
-echo 'After this operation, 402 MB of additional disk space will be used.'
+printf '%%s' '{APT_PRINTS}'
 case "$*" in update | *--print-uris*) exit 0 ;; *) exit %d ;; esac
 """
 FIRST = "gcc libc6-dev binutils python3-pytest python3-hypothesis mypy pyflakes3 librsvg2-bin sqlite3 file parallel " \
@@ -195,7 +197,7 @@ def tools(folder, *words, status=0):
         os.chmod(path, 0o755)
     ran = subprocess.run([os.path.join(str(folder), "tools"), *words], capture_output=True, text=True,
                          env=dict(os.environ, PATH=f"{folder}:{os.environ['PATH']}"))
-    assert (ran.returncode, ran.stderr) == (0, "")
+    assert (ran.returncode, ran.stderr) == (status, "")
     with open(os.path.join(str(folder), "apt-get.asked"), encoding="ascii") as asked:
         return ran.stdout, [line for line in asked.read().splitlines() if "--print-uris" not in line]
 
@@ -208,13 +210,14 @@ def test_missing_tools_are_printed_with_their_size_and_installed_only_when_that_
                                        f"  as root on Debian: apt-get update; apt-get {line}\n")
     if os.geteuid() == 0:
         printed, asked = tools(tmp_path, "--install", *words)
-        assert (printed, asked) == (f"installing {packages}: {SIZE}\n", ["update", line])
+        assert asked == ["update", line] and printed == f"{APT_PRINTS}installing {packages}: {SIZE}\n{APT_PRINTS}"
 
 
 @pytest.mark.skipif(os.geteuid() != 0, reason="root alone installs")
 def test_what_cannot_be_installed_is_named_in_one_line(tmp_path):
     printed, asked = tools(tmp_path, "--install", status=100)
-    assert len(asked) == 2 and printed.splitlines()[1].startswith(f"couldn't be installed: {FIRST}")
+    assert len(asked) == 2 and printed.splitlines()[-1] == (
+        f"couldn't be installed: {FIRST}: apt-get ended with the status 100")
 
 
 def members(value):

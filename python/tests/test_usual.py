@@ -2,6 +2,7 @@
 """
 import json
 import os
+import re
 import subprocess
 
 import pytest
@@ -72,8 +73,10 @@ def test_what_a_new_store_is_refused_it_lacks_until_it_is_asked_for(tool, tmp_pa
     tool("scan", "pages", "--into", "x.db", "--no-words", "--no-cures")
     for _ in range(2):
         assert kept(store) == [] and rows(store, "SELECT 1 FROM texts UNION SELECT 1 FROM cures") == []
-        assert tool("find", "harbour", "x.db", status=3) == (
-            "naplps-pages: x.db: has no texts: `naplps-pages scan --words` keeps them\n")
+        message = tool("find", "harbour", "x.db", status=3)
+        assert message == (
+            "naplps-pages: x.db: has no texts: a scan into a new store keeps them, without --no-words\n")
+        assert set(re.findall("--[a-z-]+", message)) <= set(re.findall("--[a-z-]+", tool("help", "scan")))
         told = tool("status", "x.db")
         assert "words:           no text is kept, and nothing is found: `scan --words` keeps texts" in told
         assert "treatments:      none is tried: `scan --cures` tries them" in told
@@ -94,7 +97,7 @@ def test_a_merged_store_keeps_to_what_one_of_them_kept(tool, tmp_path, first):
     tool("merge", "z.db", "x.db", "y.db")
     lacking = subprocess.run([COMMAND, "find", "harbour", "z.db"], cwd=tmp_path, capture_output=True, text=True)
     pages = "2 pages have" if first else "1 page has"
-    assert f"z.db: {pages} no text kept, and can't be found: a scan with --words keeps it" in lacking.stderr
+    assert f"z.db: {pages} no text kept, and can't be found: the next scan keeps it" in lacking.stderr
     assert "without their text" in tool("status", "z.db")
     tool("scan", "pages", "more", "--into", "z.db")
     assert found(tool, "z.db") == ["b.nap", "a.nap"] and "left:            nothing" in tool("status", "z.db")

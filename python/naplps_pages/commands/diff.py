@@ -8,7 +8,7 @@ from naplps.limits import MOST_LISTED
 from naplps.names import printable, shown
 
 from .. import messages
-from ..console import COMPLETE
+from ..console import COMPLETE, tell
 from . import (
     BUDGET, FILES_OF_STORE, OF_PAGE, PAGE_GROUP, SECONDS, Argument, Command, Option, Part, on_pages,
     require_one_standard_input,
@@ -82,7 +82,7 @@ def diff(session: Session) -> int:
         if not session.answered(page, answer):
             return
         if isinstance(answer, Refusal):
-            session.complain(page.name, messages.NO_SOURCE_OF_REFUSED.format(answer=answer.line))
+            tell(f"{shown(page.name)}: {messages.NO_SOURCE_OF_REFUSED.format(answer=answer.line)}")
         elif entries is None:
             session.complain(page.name, messages.LONG_FOR_SOURCE.format(most=MOST_LISTED))
         else:

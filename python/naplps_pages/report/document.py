@@ -29,7 +29,7 @@ POLICY = ("default-src 'none'; script-src %s; style-src %s; img-src blob:; %sbas
 # What a page that is served may ask for: its own server.
 ASKING = "connect-src 'self'; "
 SCRIPTS = ("elements.js", "wall.js", "play_tab.js", "page.js", "report.js")
-READABLE = " Copies that treatments made readable are among them, and marked."
+READABLE = " Copies that treatments made readable are among them, and marked; a guess may draw something else."
 MARK = re.compile(r"@([A-Z]+)@")
 
 

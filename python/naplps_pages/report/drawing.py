@@ -14,6 +14,7 @@ from naplps.treating.treatments import find, graded
 from ..box.kept_pages import KeptPage, KeptPages
 from ..collection.file_reader import Otherwise, read
 from ..collection.folders import Place
+from ..collection.store import StoreFailed
 from ..collection.tables import hashed
 from ..listing import MOST_IN_ROW, FoldedRow, Listed, Row, folded, listed, listed_of_few
 from ..player import can_be_played, played
@@ -256,7 +257,10 @@ def kept_drawer(program: Client, path: str, most: DrawingLimits) -> Callable[[Dr
     pages = KeptPages(path)
 
     def draws(task: DrawingTask) -> Drawing:
-        kept = pages.of(task.own)
+        try:
+            kept: Optional[KeptPage] = pages.of(task.own)
+        except StoreFailed:
+            kept = None
         try:
             return kept and _drawn_as_kept(kept, task, most) or draw(program, task, most)
         except NotALine:
