@@ -1,4 +1,4 @@
-use Rattle.nap_reader.proofs.Common.{All, All-append, All-cons, All-head, All-nil, All-pop, All-replicate, All-tail, Bool, CanAdvance, CanPass, Exceeds, Frame, FramesIn, Innermost, Input, IsBefore, IsFrame, IsNextByte, IsNextText, IsOver, IsStore, List, None, OnErr, OnOk, Placed, Position, Promise, Reads, Result, Some, Span, StoreState, [], add-zero, all_at, ap, append-nil, append_assoc, ap₂, arith, begun, bytes_from, bytes_of, drop, drop-append-le, drop-append_seam, drop-drop, drop-map, drop-take, drop_all, drop_more, drop_of_length-le, false, frame_bytes, get_or, if◌then◌else◌, length, length-append, length-drop, length-map, length-take, map, map-set, next_bytes, nil_from_length, no_names, place_at, placed_at, placed_by_step, placed_from, position_of, promised, refl, replicate, same_from_push, set, slice_get, store_bound, store_grown, store_limit, store_shown, sublist, sublist_at, subst, suc, sym, take, take-append-le, take-append_seam, take-map, take-take, take_rest, true, unread, unread_of, vec_capacity, zero, ℕ, ◌*◌, ◌++◌, ◌+◌, ◌-◌, ◌<◌, ◌∙◌, ◌∷◌, ◌≡◌, ◌≢◌, ◌≤◌}
+use Rattle.nap_reader.proofs.Common.{All, All-append, All-cons, All-head, All-nil, All-pop, All-replicate, All-tail, Bool, CanAdvance, CanPass, Exceeds, Frame, FramesIn, Innermost, Input, IsBefore, IsFrame, IsNextByte, IsNextText, IsOver, IsStore, List, None, OnErr, OnOk, Placed, Position, Promise, Reads, Result, Some, Span, StoreState, [], add-zero, all_at, ap, append-nil, append_assoc, ap₂, arith, begun, bytes_from, bytes_of, drop, drop-append-le, drop-append_seam, drop-drop, drop-map, drop-take, drop_all, drop_more, drop_of_length-le, false, frame_bytes, get_or, if◌then◌else◌, length, length-append, length-drop, length-map, length-take, map, map-set, next_bytes, nil_from_length, no_names, place_at, placed_at, placed_by_step, placed_from, position_of, promised, refl, replicate, same_from_push, set, slice_get, store_bound, store_grown, store_limit, store_shown, sublist, sublist_at, subst, suc, sym, take, take-append-le, take-append_seam, take-map, take-take, take_rest, true, unread, unread_of, zero, ℕ, ◌*◌, ◌++◌, ◌+◌, ◌-◌, ◌<◌, ◌∙◌, ◌∷◌, ◌≡◌, ◌≢◌, ◌≤◌}
 use Rattle.nap_reader.proofs.StreamLemmas.{bytes_of-all_at, bytes_of-append, bytes_of-placed, length-all_at}
 
 -- a part of a list is unchanged by more bytes at the end of the list

@@ -48,9 +48,6 @@ impl Frames {
         ensures memory { self.old.stack.capacity ≤ self.new.stack.capacity }
         ensures full { OnErr result (self.old.stack.capacity < length self.old.stack.items + count) }
     {
-        if count <= self.stack.capacity() - self.stack.len() {
-            return Ok(());
-        }
         self.stack.reserve(count)
     }
 
