@@ -10,10 +10,18 @@ import time
 
 WORDS = ["--headless", "--no-sandbox", "--disable-gpu", "--hide-scrollbars", "--no-first-run", "--disable-sync",
          "--disable-background-networking", "--disable-component-update", "--disable-default-apps", "--mute-audio",
-         "--host-resolver-rules=MAP * ~NOTFOUND, EXCLUDE 127.0.0.1", "--remote-debugging-pipe"]
+         "--host-resolver-rules=MAP * ~NOTFOUND, EXCLUDE 127.0.0.1", "--remote-debugging-pipe",
+         # (a page that counts as hidden draws nothing, observes nothing and takes no drop; /dev/shm may be small)
+         "--disable-backgrounding-occluded-windows", "--disable-renderer-backgrounding",
+         "--disable-background-timer-throttling", "--disable-ipc-flooding-protection", "--disable-hang-monitor",
+         "--disable-dev-shm-usage"]
 PATIENCE = 300
 # What is said of a page that gives way to another while it is asked.
 GIVES_WAY = ("navigated or closed", "context was destroyed", "Cannot find context", "Cannot find default execution")
+# What is said of a page in which something never was so.
+STATE = """JSON.stringify({visible: document.visibilityState, focus: document.hasFocus(), size: [innerWidth, innerHeight],
+  data: {...document.body.dataset}, text: document.body.innerText.slice(0, 2000),
+  images: [...document.images].map((each) => [each.alt, each.complete, each.naturalWidth, each.src.slice(0, 40)])})"""
 KEYS = {"Enter": (13, "\r"), "Tab": (9, ""), "Escape": (27, ""), " ": (32, " "), "End": (35, ""), "Home": (36, ""),
         "ArrowLeft": (37, ""), "ArrowRight": (39, ""), "ArrowDown": (40, "")}
 
@@ -99,6 +107,7 @@ class Browser:
         self.call("Page.navigate", url="about:blank")  # (or another part of the same page would be no new one)
         self.requests, self.referers, self.errors = [], [], []
         self.call("Page.navigate", url=address)
+        self.call("Page.bringToFront")
         self.until(ready)
 
     def until(self, lines):
@@ -111,7 +120,7 @@ class Browser:
         while not self._now(is_so):
             fault = self._now(lambda: self.run("document.body && document.body.dataset.fault"))
             assert not fault, fault
-            assert time.monotonic() < end, "it never was so: %s\n%s" % (what, self.errors)
+            assert time.monotonic() < end, "it never was so: %s\n%s\n%s" % (what, self.errors, self.run(STATE))
             time.sleep(0.02)
 
     def _now(self, is_so):
