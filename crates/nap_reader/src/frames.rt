@@ -48,6 +48,10 @@ impl Frames {
         ensures memory { self.old.stack.capacity ≤ self.new.stack.capacity }
         ensures full { OnErr result (self.old.stack.capacity < length self.old.stack.items + count) }
     {
+        // (nearly each call has room, and the vector's own function isn't inlined)
+        if count <= self.stack.capacity() - self.stack.len() {
+            return Ok(());
+        }
         self.stack.reserve(count)
     }
 
