@@ -1,5 +1,5 @@
 // What the raster view of a player paints with: the raster of the lines of a list.
-// (scripts/packages/browser --page makes python/naplps_pages/player/dots.js of it.)
+// (`make browser` makes python/naplps_pages/player/dots.js of it.)
 
 import { entriesOf } from "./lines.mjs";
 import { DIRECT, MARK, Raster } from "./raster.js";

@@ -1,5 +1,5 @@
 // What a player draws with: the entries of a page from the lines of its list, and their drawing in time.
-// (scripts/packages/browser --page makes python/naplps_pages/player/drawing.js of it.)
+// (`make browser` makes python/naplps_pages/player/drawing.js of it.)
 
 import { drawing } from "./drawing.js";
 import { MOST_DRAWN } from "./drawing/measure.js";

@@ -1,4 +1,4 @@
-# Completion of naplps-pages for bash. scripts/pages/make-completions makes it of the commands.
+# Completion of naplps-pages for bash. python3 -m dev.completions makes it of the commands.
 _naplps_pages() {
     local word=${COMP_WORDS[COMP_CWORD]} before=${COMP_WORDS[COMP_CWORD - 1]} command='' words='' index
     local commands='box scan files find equal report serve near merge check look explain cures list canon text describe play diff census split carve make source help'

@@ -1,4 +1,4 @@
-# Completion of naplps-pages for fish. scripts/pages/make-completions makes it of the commands.
+# Completion of naplps-pages for fish. python3 -m dev.completions makes it of the commands.
 complete -c naplps-pages -n __fish_use_subcommand -f
 complete -c naplps-pages -n __fish_use_subcommand -a box -d 'Find all that is in folders of files'
 complete -c naplps-pages -n __fish_use_subcommand -a scan -d 'Ask about all pages in folders'

@@ -1,4 +1,4 @@
-// Answers records by each call of the module, as library/tests/records.c does by the library: structs and texts, byte
+// Answers records by each call of the module, as tests/library/records.c does by the library: structs and texts, byte
 // for byte. It runs in Node and in a browser.
 
 const LARGE = 1 << 29;

@@ -108,7 +108,7 @@ def can_be_played(page: Listed) -> bool:
 
 
 HERE = os.path.dirname(os.path.abspath(__file__))
-# (made of browser/ by scripts/packages/browser --page)
+# (made of browser/ by `make browser`)
 DRAWING, DOTS = "drawing.js", "dots.js"
 SCRIPTS = ("elements.js", DRAWING, DOTS, "drawn.js", "smooth.js", "raster.js", "moments.js", "flashes.js", "screen.js",
            "codes.js", "player.js")

@@ -1,4 +1,4 @@
-// Made of browser/dots.js by scripts/packages/browser --page.
+// Made of browser/dots.js by `make browser`.
 const Dots = (() => {
 "use strict";
 const module0 = (() => {

@@ -1,4 +1,4 @@
-// Made of browser/playing.js by scripts/packages/browser --page.
+// Made of browser/playing.js by `make browser`.
 const Drawing = (() => {
 "use strict";
 const module0 = (() => {

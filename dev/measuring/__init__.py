@@ -1,0 +1,1 @@
+"""What the measurements share: pages of each kind, instructions and seconds."""

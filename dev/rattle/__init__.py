@@ -1,0 +1,1 @@
+"""What reads the sources in Rattle: tokens, items, definitions; wrong bodies with their verdicts; checksums."""

@@ -1,1 +1,0 @@
-"""What belongs to naplps-pages: the parts of its tests, its gallery and its refusals in the manual page."""

@@ -1,1 +1,0 @@
-"""What scripts of several folders use: where things are, how tests are judged and counted."""
