@@ -1,0 +1,327 @@
+"""Pages inside files of any kind: those that were planted are found, others aren't, and nothing that was found is lost.
+
+CARVED names how many MiB of a system's files and of random bytes are searched, and PLANTED_IMAGES how many images.
+"""
+import glob
+import hashlib
+import io
+import json
+import os
+import signal
+import subprocess
+import time
+from random import Random
+
+import pytest
+
+from command import COMMAND, NOBODY, file
+from naplps.answers import Accepted
+from naplps.client import Client
+from naplps_pages.commands import carve
+from naplps_pages.console import NotWritten
+from naplps_pages.page_finder import MOST_GIVEN, SHAPES, PageFinder
+from packers import pack
+from planted import pool
+from spelled import logo
+
+MIB = int(os.environ.get("CARVED", "12"))
+IMAGES = int(os.environ.get("PLANTED_IMAGES", "40"))
+# What a processor does in a second at least, in bytes, where it isn't shared; here it may be.
+LEAST_SPEED = 5_000_000
+TEXT = b"The quick brown fox jumps over the lazy dog, 0123456789 times.\r\n"
+FILES = ("/usr/lib/*/*.so*", "/usr/bin/*", "/usr/share/doc/*/*", "/usr/share/fonts/*/*/*", "/usr/lib/python3*/*.py")
+LOGO = logo()
+
+
+@pytest.fixture(scope="module")
+def program(naplps):
+    """The program."""
+    client = Client(naplps)
+    yield client
+    client.close()
+
+
+@pytest.fixture(scope="module")
+def pages(program):
+    """Pages of all beginnings that have the least number of entries and shapes."""
+    return [page for page in pool(program) if is_large(program, page)]
+
+
+def is_large(program, page):
+    """Whether a page has as much as one that is looked for."""
+    lines = [line.partition(b" ")[2] for line in program.ask("places", page).body.splitlines()]
+    return len(lines) >= 12 and sum(line.startswith(SHAPES) for line in lines) >= 3
+
+
+def found_in(program, data, **how):
+    """The finder of some bytes, once it is through, and what it found."""
+    finder = PageFinder(program, **how)
+    return finder, list(finder.find(io.BytesIO(data).read))
+
+
+def image(chance, pages):
+    """Pages in zeros, in E5, F6 or FF, in random bytes or text, each at a sector; and where they are."""
+    room = chance.choice((lambda size: bytes(size), lambda size: b"\xe5" * size, lambda size: b"\xf6" * size,
+                          chance.randbytes, lambda size: (TEXT * (size // len(TEXT) + 1))[:size]))
+    data, places = room(chance.randrange(4096)), []
+    for page in chance.sample(pages, 10):
+        places.append((len(data), len(data) + len(page)))
+        data += page
+        data += room(-len(data) % 512 + 512 * chance.randrange(4) + 32)
+    return data, places
+
+
+def test_planted_pages_are_found(program, pages):
+    chance, planted, found, others = Random(86), 0, 0, 0
+    for _ in range(IMAGES):
+        data, places = image(chance, pages)
+        finder, some = found_in(program, data)
+        planted += len(places)
+        found += sum(any(each.offset <= at and end <= each.end for each in some) for at, end in places)
+        others += sum(not any(each.offset < end and at < each.end for at, end in places) for each in some)
+        assert finder.given <= MOST_GIVEN * len(data)
+        for one, other in zip(some, some[1:]):
+            assert one.end <= other.offset
+        for each in some:
+            assert data[each.offset:each.end] == each.data and program.ask("check", each.data) == each.answer
+            assert each.most_begin <= each.offset < each.least_end <= each.end
+    print(f"\nplanted {planted}, found {found}, others {others}")
+    assert 100 * found >= 99 * planted and others == 0
+
+
+def system_files(most):
+    """Files of this system, of a number of bytes in all."""
+    names = sorted(name for each in FILES for name in glob.glob(each) if os.path.isfile(name))
+    Random(2).shuffle(names)
+    for name in names:
+        if most <= 0:
+            return
+        with open(name, "rb") as source:
+            data = source.read(min(most, 8 << 20))
+        most -= len(data)
+        yield name, data
+
+
+def test_hardly_anything_is_found_in_other_bytes(program):
+    chance, size, found, given = Random(3), 0, [], 0
+    began = time.process_time()
+    for name, data in [*system_files(MIB << 19), *(("random", chance.randbytes(1 << 20)) for _ in range(MIB // 2))]:
+        finder, some = found_in(program, data)
+        size, given = size + len(data), given + finder.given
+        found += [(name, each.offset, each.answer) for each in some]
+        assert finder.given <= MOST_GIVEN * len(data)
+    speed = size / (time.process_time() - began)
+    print(f"\n{size} bytes, found {found}, given {given}, {speed:.0f} bytes a second of a processor")
+    assert len(found) <= 1, found
+    assert speed >= LEAST_SPEED / 2
+
+
+@pytest.mark.parametrize("unit", [
+    b"\x0c", b"\x0e\x26", b"\x0e\x26\x52", b"\x0c" * 999 + b"\x1b\x1b\x26\x52", b"\x1b\x40A", b"\x0e\x0f",
+    b"\x0e\x26" + b"\x52" * 13 + b"\x1b\x51", b"\x0e\x26" + b"\x52" * 12 + b"\x28\x7f", bytes(1000)],
+    ids=["CS", "SO", "points", "CS and a fault", "DEF MACRO", "shifts", "EDC1", "outside", "zeros"])
+def test_false_beginnings_cost_little(program, unit):
+    data = unit * ((1 << 19) // len(unit))
+    began = time.process_time()
+    finder, some = found_in(program, data)
+    assert finder.given <= MOST_GIVEN * len(data) and time.process_time() - began < 10
+    assert [data[each.offset:each.end] == each.data for each in some] == [True] * len(some)
+
+
+def test_pages_longer_than_a_block_and_over_its_edge(program):
+    long = LOGO + b"\x0e\x26" + b"\x52\x40\x40" * 5000
+    data = bytes((4 << 20) - 100) + LOGO + b"\xff" * 100 + bytes(5 << 20) + long + b"\xff"
+    _, some = found_in(program, data)
+    assert [each.data for each in some] == [LOGO, long] and some[0].offset == (4 << 20) - 100
+
+
+DISK = bytes(100_000) + LOGO + b"\xff" * 3000 + b"see: " + LOGO + b"\x1a" + bytes(50_000)
+
+
+def test_each_page_is_a_file_with_a_note(run, tmp_path):
+    path, to = file(tmp_path, "disk.img", DISK), os.path.join(str(tmp_path), "to")
+    said = run(["carve", path, "--into", to])
+    names = ["disk.img-0000100000.nap", "disk.img-%010d.nap" % DISK.rindex(LOGO)]
+    assert (said.stderr, said.returncode) == (b"", 0)
+    assert sorted(os.listdir(to)) == sorted([*names, *(name + ".json" for name in names)])
+    lines = said.stdout.decode().splitlines()
+    assert lines[0] == "%s: %d bytes at 100000, at least %d, at most %d from 100000: accepted 36 entries" % (
+        os.path.join(to, names[0]), len(LOGO), LOGO.rindex(b"\x0f") + 1, len(LOGO))
+    assert lines[-1] == f"{path}: 2 pages found in {len(DISK)} bytes"
+    for name in names:
+        with open(os.path.join(to, name), "rb") as page, open(os.path.join(to, name + ".json"), "rb") as note:
+            data, row = page.read(), json.load(note)
+        assert data == LOGO == DISK[row["offset"]:row["offset"] + row["bytes"]]
+        assert row["source_name"] == path and row["answer"] == "accepted 36 entries" and row["least"] == 12
+        assert row["source"] == {"bytes": len(DISK), "sha256": hashlib.sha256(DISK).hexdigest()}
+        assert row["copy"] == {"bytes": len(data), "sha256": hashlib.sha256(data).hexdigest()}
+    assert row["at_most"] == {"offset": row["offset"] - 5, "bytes": len(LOGO) + 5}
+    again = run(["carve", path, "--into", to])
+    assert (again.stdout, again.stderr, again.returncode) == (said.stdout, b"", 0)
+    assert run(["scan", to, "--into", to + ".db"]).stdout.startswith(b"2 files: 2 accepted (2 pages)")
+
+
+def test_without_a_folder_nothing_is_made_and_least_is_kept(run, tmp_path):
+    path = file(tmp_path, "disk.img", DISK)
+    said = run(["carve", path, "--json"])
+    rows = [json.loads(line) for line in said.stdout.splitlines()]
+    assert [(row["name"], row["status"], row["offset"], row["bytes"]) for row in rows] == [
+        (path, "accepted", 100_000, len(LOGO)), (path, "accepted", DISK.rindex(LOGO), len(LOGO))]
+    said = run(["carve", path, "--least", "37"])
+    assert said.stdout.decode() == f"{path}: 0 pages found in {len(DISK)} bytes\n" and said.returncode == 1
+    assert os.listdir(str(tmp_path)) == ["disk.img"]
+
+
+def test_members_of_packs_and_standard_input(run, tmp_path):
+    pack(os.path.join(str(tmp_path), "old.tar"), {"disk.img": DISK})
+    said = run(["carve", os.path.join(str(tmp_path), "old.tar") + "!disk.img"])
+    assert said.returncode == 0 and said.stdout.count(b"accepted 36 entries") == 2
+    said = run(["carve", "-", "--into", os.path.join(str(tmp_path), "to")], DISK)
+    assert said.returncode == 0 and os.path.exists(os.path.join(str(tmp_path), "to", "page-0000100000.nap"))
+
+
+def test_a_foreign_file_stays_and_the_rest_is_found(run, tmp_path):
+    path, to = file(tmp_path, "disk.img", DISK), os.path.join(str(tmp_path), "to")
+    os.mkdir(to)
+    file(to, "disk.img-0000100000.nap", b"mine")
+    said = run(["carve", path, "--into", to])
+    assert said.returncode == 3 and b"is there already with other bytes" in said.stderr
+    with open(os.path.join(to, "disk.img-0000100000.nap"), "rb") as there:
+        assert there.read() == b"mine"
+    assert len(os.listdir(to)) == 3
+    file(to, ".disk.img.carve.json", b"mine too")
+    said = run(["carve", path, "--into", to])
+    assert said.returncode == 3 and b".disk.img.carve.json: is there already, and isn't of this tool" in said.stderr
+
+
+@pytest.mark.parametrize("kind", ["a pipe", "a link", "a folder"])
+def test_what_is_no_file_where_a_search_keeps_how_far_it_is(run, tmp_path, kind):
+    path, to = file(tmp_path, "disk.img", DISK), os.path.join(str(tmp_path), "to")
+    state, other = os.path.join(to, ".disk.img.carve.json"), file(tmp_path, "other", b"mine")
+    os.mkdir(to)
+    {"a pipe": os.mkfifo, "a link": lambda to: os.symlink(other, to), "a folder": os.mkdir}[kind](state)
+    said = run(["carve", path, "--into", to])
+    assert said.returncode == 3 and b".disk.img.carve.json: is there already, and isn't of this tool" in said.stderr
+    assert os.listdir(to) == [".disk.img.carve.json"]
+    with open(other, "rb") as there:
+        assert there.read() == b"mine"
+
+
+class _Full:
+    """A disk that has room for a number of files."""
+
+    def __init__(self, room):
+        self.room, self.put = room, carve.put_inside
+
+    def __call__(self, path, data):
+        self.room -= 1
+        if self.room < 0:
+            raise NotWritten(path, os.strerror(28))
+        self.put(path, data)
+
+
+def test_a_full_disk_loses_nothing(naplps, tmp_path, monkeypatch, capfd):
+    from naplps_pages.cli import main
+    monkeypatch.setenv("NAPLPS", naplps)
+    path, to = file(tmp_path, "disk.img", DISK * 3), os.path.join(str(tmp_path), "to")
+    full = _Full(5)
+    monkeypatch.setattr(carve, "put_inside", full)
+    assert main(["carve", path, "--into", to], COMMAND) == 3
+    assert b"No space left on device" in capfd.readouterr().err.encode()
+    full.room = 1000
+    assert main(["carve", path, "--into", to], COMMAND) == 0
+    made = sorted(name for name in os.listdir(to) if name.endswith(".nap"))
+    assert len(made) == 6 and sorted(os.listdir(to)) == sorted(made + [name + ".json" for name in made])
+    assert capfd.readouterr().out.endswith(f"disk.img: 6 pages found in {3 * len(DISK)} bytes\n")
+
+
+def test_a_search_that_is_stopped_goes_on(run, naplps, tmp_path):
+    path, to = os.path.join(str(tmp_path), "disk.img"), os.path.join(str(tmp_path), "to")
+    with open(path, "wb") as disk:  # (sparse)
+        for at in range(0, 400 << 20, 100 << 20):
+            disk.seek(at)
+            disk.write(LOGO + b"\xff")
+        disk.truncate(400 << 20)
+    started = subprocess.Popen([COMMAND, "carve", path, "--into", to], env=dict(os.environ, NAPLPS=naplps),
+                               stdout=subprocess.PIPE, stderr=subprocess.PIPE)
+    wait = time.monotonic() + 120
+    while not (os.path.isdir(to) and any(name.endswith(".nap") for name in os.listdir(to))):
+        assert time.monotonic() < wait and started.poll() is None
+        time.sleep(0.02)
+    started.send_signal(signal.SIGINT)
+    told = started.communicate(timeout=120)[1]
+    assert started.returncode == -signal.SIGINT and b"stopped; what was found is kept, and the same command" in told
+    with open(os.path.join(to, ".disk.img.carve.json"), encoding="ascii") as state:
+        assert 0 < json.load(state)["at"] < 400 << 20
+    said = run(["carve", path, "--into", to])
+    assert said.stdout.endswith(f"{path}: 4 pages found in {400 << 20} bytes\n".encode()) and said.returncode == 0
+    assert said.stdout.count(b"accepted") < 4 and len(os.listdir(to)) == 8
+
+
+def state_of(naplps, path, at, found):
+    """A state of a search, as an earlier run leaves it, of a file that is there."""
+    with open(path, "rb") as source:
+        data = source.read()
+    line = subprocess.run([naplps, "--version"], stdout=subprocess.PIPE, check=True, text=True).stdout.strip()
+    terms = [hashlib.sha256(data).hexdigest(), len(data), 12, line]
+    return json.dumps({"what": carve.WHAT, "at": at, "found": found, "terms": terms}).encode("ascii")
+
+
+LAST = DISK.rindex(LOGO)
+
+
+@pytest.mark.parametrize("at", [len(DISK) + 1, 9_999_999, 10 ** 20, 10 ** 400, -1, True, 1.5, "7", None], ids=range(9))
+def test_a_search_does_not_continue_outside_of_its_file(run, naplps, tmp_path, at):
+    path, to = file(tmp_path, "disk.img", DISK), os.path.join(str(tmp_path), "to")
+    os.mkdir(to)
+    file(to, ".disk.img.carve.json", state_of(naplps, path, at, 7))
+    said = run(["carve", path, "--into", to])
+    assert (said.returncode, said.stderr) == (0, b"")
+    assert said.stdout.endswith(f"{path}: 2 pages found in {len(DISK)} bytes\n".encode())
+    assert sorted(os.listdir(to)) == sorted(
+        f"disk.img-{offset:010}.nap{ending}" for offset in (100_000, LAST) for ending in ("", ".json"))
+
+
+def test_a_search_that_continues_says_so_and_counts_the_pages_that_are_there(run, naplps, tmp_path):
+    path, to = file(tmp_path, "disk.img", DISK), os.path.join(str(tmp_path), "to")
+    os.mkdir(to)
+    for found in (0, 1):
+        file(to, ".disk.img.carve.json", state_of(naplps, path, 101_000, 7))
+        said = run(["carve", path, "--into", to])
+        assert said.returncode == 0 and said.stderr.decode() == (
+            f"naplps-pages: {path}: the search continues at byte 101000, where an earlier run stopped; pages found "
+            f"before: {found}\n")
+        pages = "2 pages" if found else "1 page"
+        assert said.stdout.endswith(f"{path}: {pages} found in {len(DISK)} bytes\n".encode())
+        assert len(os.listdir(to)) == 2 * (found + 1)
+        for ending in ("", ".json"):
+            file(to, "disk.img-0000100000.nap" + ending, LOGO)
+
+
+@pytest.mark.skipif(os.geteuid() != 0, reason="only root can be another user")
+def test_a_search_of_another_user_is_not_continued(run, naplps, tmp_path):
+    path, to = file(tmp_path, "disk.img", DISK), os.path.join(str(tmp_path), "to")
+    os.mkdir(to)
+    state = file(to, ".disk.img.carve.json", state_of(naplps, path, 101_000, 7))
+    os.chown(state, NOBODY, NOBODY)
+    said = run(["carve", path, "--into", to])
+    assert (said.returncode, said.stdout) == (3, b"") and said.stderr.decode() == (
+        f"naplps-pages: {state}: is another user's: move it away, and the search begins at the first byte\n")
+    assert os.listdir(to) == [".disk.img.carve.json"]
+
+
+def test_a_search_of_a_file_with_a_long_name_can_be_continued(run, naplps, tmp_path):
+    path, to = file(tmp_path, "n" * 235, DISK), os.path.join(str(tmp_path), "to")
+    full = carve.CarveState(os.path.join(to, carve.state_name("n" * 255)), "", [])
+    os.mkdir(to)
+    full.keep(7, 0)
+    name, = os.listdir(to)
+    assert len(name) <= 255 and name.endswith(".json") and name.startswith(".nnn")
+    os.unlink(os.path.join(to, name))
+    file(to, carve.state_name("n" * 235), state_of(naplps, path, 101_000, 7))
+    assert b"the search continues at byte 101000" in run(["carve", path, "--into", to]).stderr
+
+
+def test_a_refused_page_has_its_answer(program):
+    _, some = found_in(program, b"\xff" * 9 + LOGO + b"\x1b\x43A\x0e\x26\x52\x40\x40\xff")
+    assert len(some) == 1 and not isinstance(some[0].answer, Accepted) and some[0].answer.fault == "Unended"
