@@ -11,6 +11,7 @@ Where comments and the layout alone changed, --comments takes a second: it write
 now, so that a start finds it without Python.
 """
 import re
+import shutil
 import subprocess
 import sys
 from pathlib import Path
@@ -33,6 +34,8 @@ OF_FILES = "program-files"
 def prove() -> str:
     """The log of `rt ci`, whose lines are shown as they come; raises NotProved where it fails."""
     (TOP / "out" / "libnaplps.so").unlink(missing_ok=True)
+    for library in TOP.glob("crates/*/out/rlib"):
+        shutil.rmtree(library)  # (rt leaves a library of earlier sources as it is)
     lines = []
     with subprocess.Popen(["rt", "ci"], cwd=TOP, stdin=subprocess.DEVNULL, stdout=subprocess.PIPE,
                           stderr=subprocess.STDOUT, encoding="utf-8", errors="replace") as process:

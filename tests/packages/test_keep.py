@@ -168,6 +168,14 @@ def test_a_log_of_something_else_is_refused(tree: Tree, line: str, reason: str) 
     tree.refuses(reason, "--proved", str(tree.log))
 
 
+def test_libraries_of_earlier_sources_go(tree: Tree) -> None:
+    """A library in crates/ that rt left of earlier sources isn't linked into the archive."""
+    stale = tree.top / "crates" / "nap_low" / "out" / "rlib" / "stale"
+    stale.mkdir(parents=True)
+    tree.keep()
+    assert not stale.exists()
+
+
 def test_verdicts_of_earlier_runs(tree: Tree) -> None:
     """A verdict that this run doesn't tell is that of the last MADE or of a log, while the sources are the same."""
     assert tree.keep(EARLIER="nap_low")["nap_low"].endswith(" proved by an earlier run of rt ci")
