@@ -136,10 +136,12 @@ def rule_of(path: str) -> Rule:
 
 
 def names(path: str, test: Path) -> bool:
-    """Whether a test file names a file, by its name or, of a module, without its suffix."""
+    """Whether a test file names a file by its name, or a module by that of its folder and its own, or is called so."""
     file = Path(path)
-    word = file.stem if file.suffix == ".py" else file.name
-    return word not in COMMON and len(word) > 3 and word in words_in(test)
+    if file.suffix == ".py" and file.name not in words_in(test):
+        module = f"{file.parent.name}.{file.stem}"
+        return test.stem == f"test_{file.stem}" or any(word.endswith(module) for word in words_in(test))
+    return file.name not in COMMON and len(file.name) > 3 and file.name in words_in(test)
 
 
 def needs(test: Path, path: str, rule: Rule) -> bool:
