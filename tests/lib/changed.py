@@ -75,9 +75,8 @@ RULES = (
     Rule("docs/*", DOCUMENTS),
 )
 WORD = re.compile(r"[\w-]+(?:\.[\w-]+)*")
-# Words that say too little to name a file.
-COMMON = frozenset({"naplps", "naplps-pages", "__init__", "conftest", "README.md", "CHANGELOG.md", "main", "files",
-                    "walk", "search"})
+# Names that say too little.
+COMMON = frozenset({"naplps", "naplps-pages", "__init__.py", "conftest.py", "README.md", "CHANGELOG.md"})
 
 
 def all_tests() -> List[Path]:
@@ -138,10 +137,12 @@ def rule_of(path: str) -> Rule:
 def names(path: str, test: Path) -> bool:
     """Whether a test file names a file by its name, or a module by that of its folder and its own, or is called so."""
     file = Path(path)
+    if file.name in COMMON:
+        return False
     if file.suffix == ".py" and file.name not in words_in(test):
         module = f"{file.parent.name}.{file.stem}"
         return test.stem == f"test_{file.stem}" or any(word.endswith(module) for word in words_in(test))
-    return file.name not in COMMON and len(file.name) > 3 and file.name in words_in(test)
+    return len(file.name) > 3 and file.name in words_in(test)
 
 
 def needs(test: Path, path: str, rule: Rule) -> bool:
