@@ -24,7 +24,7 @@ keep:  ## copy the proved program and library into dist; --comments: where comme
 	python3 -m dev.keep $(ARGS)
 browser:  ## the page naplps.html and the scripts of players, after a change in browser/ or python/
 	python3 -m dev.browser --page $(ARGS)
-vectors:  ## vectors/*.rows, which takes two other readers, in the folder READINGS
+vectors:  ## the answers in vectors/*.rows, of two other readers, in the folder READINGS
 	python3 -m dev.make_vectors $(ARGS)
 gallery:  ## examples/gallery.html, of the pages in examples
 	python3 -m dev.gallery $(ARGS)

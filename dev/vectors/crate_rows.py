@@ -58,8 +58,8 @@ def listed(text: str) -> list[str] | None:
         return None
     lines: list[str] = []
     for line in filter(None, (part.strip() for part in text.split(";"))):
-        for whole in repeated(line):
-            lines.append(" ".join(word for part in whole.split(" ") for word in repeated(part)))
+        for copy in repeated(line):
+            lines.append(" ".join(word for part in copy.split(" ") for word in repeated(part)))
     return lines
 
 
@@ -69,20 +69,20 @@ def items_of(text: str) -> dict[str, str]:
     for item in items:
         if not ITEM.fullmatch(item):
             raise ValueError(f"an item says nothing: {item}")
-    return {word: rest for word, _, rest in (item.partition(" ") for item in items)}
+    return {word: value for word, _, value in (item.partition(" ") for item in items)}
 
 
 def row_of(place: str, text: str) -> Row:
     """The row of a line that has one; raises ValueError for a line with too few fields or too many."""
-    stream, lines, wanted, more = (field.strip() for field in (text if text.count("|") > 2 else text + "|").split("|"))
-    items = items_of(more)
-    refused = wanted.startswith("refused ")
+    stream, lines, result, extra = (field.strip() for field in (text if text.count("|") > 2 else text + "|").split("|"))
+    items = items_of(extra)
+    refused = result.startswith("refused ")
     return Row(
         place,
         spelled(stream),
         listed(lines),
-        None if refused or wanted == "-" else spelled(wanted),
-        wanted if refused else None,
+        None if refused or result == "-" else spelled(result),
+        result if refused else None,
         int(items.get("budget", USUAL)),
         True if "plain" in items else False if "not" in items else None,
         spelled(items["form1"]) if "form1" in items else None,

@@ -33,9 +33,9 @@ def rows() -> Iterator[Row]:
     for number, line in enumerate(FILE.read_text("ascii").splitlines(), 1):
         if line.startswith("#"):
             continue
-        lines, bar, ending = line.partition(" | ")
+        lines, bar, result = line.partition(" | ")
         if not bar:
             raise ValueError(f"{FILE.name}:{number}: no row of lines")
-        told = ending.startswith("line ")
-        text = None if told else bytes_of(ending)
-        yield Row(f"{FILE.name}:{number}", text_of(lines), text, ending.encode("ascii") if told else b"")
+        told = result.startswith("line ")
+        text = None if told else bytes_of(result)
+        yield Row(f"{FILE.name}:{number}", text_of(lines), text, result.encode("ascii") if told else b"")

@@ -22,24 +22,24 @@ def _repeated(match: "re.Match[str]") -> str:
 def spelled(data: bytes) -> str:
     """The shortest such text that takes the first repetitions it finds."""
     words: List[str] = []
-    at = 0
-    while at < len(data):
-        period, times = _repetition(data, at)
-        part = " ".join(f"{byte:02X}" for byte in data[at : at + period])
+    index = 0
+    while index < len(data):
+        period, times = _repetition(data, index)
+        part = " ".join(f"{byte:02X}" for byte in data[index : index + period])
         if times > 1:
             part = f"({part})*{times}" if period > 1 else f"{part}*{times}"
         words.append(part)
-        at += period * times
+        index += period * times
     return " ".join(words)
 
 
-def _repetition(data: bytes, at: int) -> "tuple[int, int]":
+def _repetition(data: bytes, index: int) -> "tuple[int, int]":
     """The length of the part that is repeated from here on, and how often it stands there: the one that saves most."""
     best, saved = (1, 1), 0
-    for period in range(1, min(LONGEST_PERIOD, len(data) - at) + 1):
-        part = data[at : at + period]
+    for period in range(1, min(LONGEST_PERIOD, len(data) - index) + 1):
+        part = data[index : index + period]
         times = 1
-        while data.startswith(part, at + period * times):
+        while data.startswith(part, index + period * times):
             times += 1
         saves = 3 * period * (times - 1) - (2 if period == 1 else 4) - len(str(times))
         if times >= 3 and saves > saved:
@@ -61,26 +61,26 @@ def lines_of(text: str) -> List[str]:
 def listed(lines: List[str]) -> str:
     """The lines of a list as a row has them."""
     parts: List[str] = []
-    at = 0
-    while at < len(lines):
+    index = 0
+    while index < len(lines):
         times = 1
-        while lines[at + times : at + times + 1] == [lines[at]]:
+        while lines[index + times : index + times + 1] == [lines[index]]:
             times += 1
-        parts.append(_counted(lines[at].split(" ")) + (f" *{times}" if times > 1 else ""))
-        at += times
+        parts.append(_counted(lines[index].split(" ")) + (f" *{times}" if times > 1 else ""))
+        index += times
     return "; ".join(parts)
 
 
 def _counted(words: List[str]) -> str:
     """Words, of which equal ones that follow each other are counted from three on."""
     out: List[str] = []
-    at = 0
-    while at < len(words):
+    index = 0
+    while index < len(words):
         times = 1
-        while words[at + times : at + times + 1] == [words[at]]:
+        while words[index + times : index + times + 1] == [words[index]]:
             times += 1
-        out += [f"{words[at]}*{times}"] if times > 2 else [words[at]] * times
-        at += times
+        out += [f"{words[index]}*{times}"] if times > 2 else [words[index]] * times
+        index += times
     return " ".join(out)
 
 

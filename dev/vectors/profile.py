@@ -90,7 +90,7 @@ def row_named(profile: Profile, rule: str) -> Optional[Row]:
     """The row that a rule names, if it names one: by its first cell, or by its beginning up to the end of a word."""
     tag, _, name = rule.partition(" ")
     rows = [row for row in profile.rows if row.tag == tag]
-    whole = [row for row in rows if row.first == name]
-    begun = [row for row in rows if re.match(re.escape(name) + r"(?!\w)", row.text)]
-    found = whole or begun
+    exact = [row for row in rows if row.first == name]
+    prefixed = [row for row in rows if re.match(re.escape(name) + r"(?!\w)", row.text)]
+    found = exact or prefixed
     return found[0] if len(found) == 1 else None

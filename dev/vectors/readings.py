@@ -50,12 +50,12 @@ def _open_first(folder: str) -> None:
 
 def _first(stream: Stream) -> Answer:
     data, budget = stream
-    begun, means = _reading.begun(data, budget), _reading.means(data, budget)
+    prefix, means = _reading.begun(data, budget), _reading.means(data, budget)
     refusal = None if means.refusal is None else _reading.refusal_line(means.refusal)
     accepted = refusal is None
     return Answer(
         refusal,
-        begun.refusal is not None,
+        prefix.refusal is not None,
         means.fed,
         means.turns,
         means.charged,
@@ -75,19 +75,19 @@ def _places(data: bytes, budget: int, entries: int) -> Optional[List[int]]:
     def count(fed: int) -> int:
         return len(_reading.begun(data[:fed], budget).entries)
 
-    def between(low: int, below: int, high: int, above: int) -> Iterator[int]:
+    def places_between(low: int, below: int, high: int, above: int) -> Iterator[int]:
         if below == above:
             return
         if high - low == 1:
             yield from [low] * (above - below)
             return
         middle = (low + high) // 2
-        here = count(middle)
-        yield from between(low, below, middle, here)
-        yield from between(middle, here, high, above)
+        entries_there = count(middle)
+        yield from places_between(low, below, middle, entries_there)
+        yield from places_between(middle, entries_there, high, above)
 
     fed = count(len(data))
-    return [*between(0, 0, len(data), fed), *[len(data)] * (entries - fed)]
+    return [*places_between(0, 0, len(data), fed), *[len(data)] * (entries - fed)]
 
 
 def first_answers(folder: Path, streams: List[Stream]) -> List[Answer]:
@@ -101,9 +101,9 @@ def second_answers(folder: Path, temp: Path, streams: List[Stream]) -> List[Answ
     source = Path(__file__).with_name("second_reading.rs")
     (temp / "Cargo.toml").write_text(CARGO.format(source=source, reading=folder / "rust"), "ascii")
     words = ["cargo", "run", "--quiet", "--release", "--offline", "--manifest-path", str(temp / "Cargo.toml")]
-    asked = "".join(f"{data.hex()} {budget}\n" for data, budget in streams)
-    told = subprocess.run([*NICE, *words], input=asked, stdout=subprocess.PIPE, check=True, encoding="ascii").stdout
-    return [_second(line) for line in told.splitlines()]
+    requests = "".join(f"{data.hex()} {budget}\n" for data, budget in streams)
+    run = subprocess.run([*NICE, *words], input=requests, stdout=subprocess.PIPE, check=True, encoding="ascii")
+    return [_second(line) for line in run.stdout.splitlines()]
 
 
 def _second(line: str) -> Answer:
@@ -146,12 +146,12 @@ def program_tells(program: str, streams: List[Stream]) -> List[Told]:
         return subprocess.run(words, input=stream[0].hex().encode(), stdout=subprocess.PIPE, stderr=subprocess.PIPE)
 
     def tell(stream: Stream) -> Told:
-        check, shown, canon = (run(command, stream) for command in ("check", "list", "canon"))
+        check, listing, canon = (run(command, stream) for command in ("check", "list", "canon"))
         verdict = check.stdout.decode().rstrip("\n")
         if check.returncode:
-            same = {shown.stderr, canon.stderr} == {check.stdout} and not shown.stdout and not canon.stdout
-            return Told(verdict if same else "its three commands differ", None, None)
-        return Told(verdict, shown.stdout.decode().splitlines(), bytes.fromhex(canon.stdout.decode()))
+            is_same = {listing.stderr, canon.stderr} == {check.stdout} and not listing.stdout and not canon.stdout
+            return Told(verdict if is_same else "its three commands differ", None, None)
+        return Told(verdict, listing.stdout.decode().splitlines(), bytes.fromhex(canon.stdout.decode()))
 
     with ThreadPoolExecutor(4) as pool:
         return list(pool.map(tell, streams))

@@ -4,13 +4,13 @@ from pathlib import Path
 from typing import Dict, Iterator, List, NamedTuple, Optional
 
 from dev.layout import TOP
-from dev.vectors.cases import USUAL_BUDGET, Case
 from dev.vectors.notation import bytes_of, counted, listed, spelled
 from dev.vectors.readings import Answer
 
 FOLDER = TOP / "vectors"
+USUAL_BUDGET = 1_048_576
 ROW = re.compile(r"(?P<stream>[^|]*) \| (?P<list>[^|]*) \| (?P<ending>[^|]+) \| (?P<more>[^|]+)")
-TITLE = re.compile(r"# (?P<rule>[^:]+): (?P<shows>\S.*\.)")
+TITLE = re.compile(r"# (?P<rule>[^:]+): (?P<shows>[^a-z ].*\.)")
 
 
 class Vector(NamedTuple):
@@ -40,18 +40,16 @@ class Vector(NamedTuple):
         return bytes_of(self.stream)
 
 
-def row_of(case: Case, answer: Answer) -> str:
-    """The two lines of a case and its answer."""
-    ending = answer.refusal or spelled(answer.text or b"")
-    fields = [case.stream, listed(answer.lines), ending, ", ".join(_more(case, answer))]
-    shows = case.shows[0].upper() + case.shows[1:]
-    return f"# {case.rule}: {shows}\n{' | '.join(fields)}\n"
+def row_of(vector: Vector, answer: Answer) -> str:
+    """The row of a vector whose answer is this."""
+    result = answer.refusal or spelled(answer.text or b"")
+    return " | ".join([vector.stream, listed(answer.lines), result, ", ".join(_more(vector.budget, answer))])
 
 
-def _more(case: Case, answer: Answer) -> Iterator[str]:
+def _more(budget: int, answer: Answer) -> Iterator[str]:
     yield "plain" if answer.plain else "not plain"
-    if case.budget != USUAL_BUDGET:
-        yield f"budget {case.budget}"
+    if budget != USUAL_BUDGET:
+        yield f"budget {budget}"
     if answer.charged:
         yield f"charged {answer.charged}"
         yield f"turns {answer.turns}"
@@ -68,6 +66,11 @@ def files() -> List[Path]:
     return sorted(set(FOLDER.glob("*.rows")) - {FOLDER / "lines.rows"})
 
 
+def is_row(line: str) -> bool:
+    """Whether a line of a file has a row: it is neither empty nor a title."""
+    return line != "" and not line.startswith("#")
+
+
 def vectors_of(file: Path) -> Iterator[Vector]:
     """The vectors of a file; raises ValueError where a line has another form."""
     title: Optional["re.Match[str]"] = None
@@ -75,10 +78,10 @@ def vectors_of(file: Path) -> Iterator[Vector]:
         place = f"{file.name}:{number}"
         if line.startswith("##") or not line:
             continue
-        if line.startswith("#"):
+        if not is_row(line):
             title = TITLE.fullmatch(line)
             if title is None:
-                raise ValueError(f"{place}: a line `# RULE: what it shows.` was wanted")
+                raise ValueError(f"{place}: a line `# RULE: What it shows.` was wanted")
             continue
         row = ROW.fullmatch(line if line[0] != "|" else " " + line)
         if row is None or title is None:
@@ -92,6 +95,6 @@ def _words(text: str) -> Dict[str, str]:
     """The words of the fourth field, and what stands after each."""
     words = {}
     for part in text.split(", "):
-        word, _, rest = part.partition(" ")
-        words[word] = rest
+        word, _, value = part.partition(" ")
+        words[word] = value
     return words

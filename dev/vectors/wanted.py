@@ -15,12 +15,12 @@ def wanted_of(vector: Vector) -> Dict[str, Tuple[str, bytes]]:
     line = f"accepted {len(lines)} entries" if accepted else vector.ending
     text = bytes_of(vector.ending) if accepted else b""
     form1 = bytes_of(vector.more["form1"]) if "form1" in vector.more else text
-    listed = "".join(f"{entry}\n" for entry in lines).encode()
+    listing = "".join(f"{entry}\n" for entry in lines).encode()
     return {
         "check": (line, b""),
-        "list": (line, listed if accepted else b""),
+        "list": (line, listing if accepted else b""),
         "canon": (line, text),
-        "places": (line, listed),
+        "places": (line, listing),
         "form1": (line, form1),
         "plain": ("plain" if "plain" in vector.more else "not plain", b""),
     }
