@@ -1,0 +1,9 @@
+pub mod SearchingLemmas
+pub mod ReadingLemmas
+pub mod ReaderLemmas
+pub mod IdleLemmas
+pub mod BlockLemmas
+pub mod EndLemmas
+pub mod BlockLaws
+pub mod FindLaws
+pub mod RowLemmas

@@ -1,0 +1,70 @@
+use Rattle.std.specs.Prelude.{Bool, List, None, Option, Some, is_none, length, nat_le, nat_lt, take, ℕ, false, true, ◌&&◌, ◌+◌, ◌<◌, ◌==◌, ◌≡◌}
+use Rattle.nap_list.specs.declared.entry.Entry.{Entry}
+use Rattle.nap_reader.specs.Stream.{begun, means}
+use Rattle.nap_find.specs.Searching.{greatest}
+use Rattle.nap_list.specs.State.{start}
+use Rattle.nap_find.specs.Shapes.{CountsDrawn, shapes_in}
+use Rattle.nap_find.specs.declared.drawn_sink.DrawnSink.{DrawnSink}
+use Rattle.nap_find.specs.declared.find.Asked.{Asked}
+
+-- Readings of bytes as a page.
+
+-- the bytes of macro bodies that a reading may be charged
+abbrev pub find_budget : ℕ
+find_budget = 65536
+
+-- the bytes in which a page has drawn a shape, if it is longer
+abbrev pub idle_limit : ℕ
+idle_limit = 8192
+
+-- whether none of the bytes is refused
+unfoldable pub is_read : List ℕ → Bool
+is_read p = is_none (begun find_budget p).refusal
+
+-- whether the first k bytes are read
+abbrev pub reads : List ℕ → ℕ → Bool
+reads p k = is_read (take k p)
+
+-- how many of the bytes are read before one is refused
+abbrev pub reach : List ℕ → ℕ
+reach p = greatest (reads p) (length p)
+
+-- the byte with this index is the first one that is refused
+pub record IsRefusedAt (p : List ℕ) (n : ℕ) : Type 0 where
+  pub within : n < length p
+  pub before : reads p n ≡ true
+  pub refused : reads p (n + 1) ≡ false
+
+-- the first byte that is refused has this index, or none is refused
+abbrev pub IsReadTo : List ℕ → Option ℕ → Type 0
+IsReadTo p None = is_read p ≡ true
+IsReadTo p (Some n) = IsRefusedAt p n
+
+-- whether the bytes are an accepted stream
+unfoldable pub is_accepted : List ℕ → Bool
+is_accepted p = is_none (means find_budget p).refusal
+
+-- whether the first k bytes are accepted
+abbrev pub accepts : List ℕ → ℕ → Bool
+accepts p k = is_accepted (take k p)
+
+-- a sink that has counted nothing
+abbrev pub nothing_drawn : DrawnSink
+nothing_drawn = record { entries = 0; shapes = 0; state = record { state = start } }
+
+-- the bytes are accepted, and this sink has counted their entries; or they are refused
+abbrev pub CountsAccepted : List ℕ → Option DrawnSink → Type 0
+CountsAccepted p None = is_accepted p ≡ false
+CountsAccepted p (Some t) = (is_accepted p ≡ true) × CountsDrawn nothing_drawn (means find_budget p).entries t
+
+-- whether a list has as many entries and shapes as are asked for
+abbrev pub draws : Asked → List Entry → Bool
+draws asked list = nat_le asked.entries (length list) && nat_le asked.shapes (shapes_in list)
+
+-- whether the bytes are an accepted stream of the length asked for that draws what is asked for
+unfoldable pub is_page : Asked → List ℕ → Bool
+is_page asked p = nat_le asked.bytes (length p) && is_accepted p && draws asked (means find_budget p).entries
+
+-- whether the first bytes, as many as the limit, are read and have drawn no shape, and more bytes follow
+unfoldable pub is_idle : List ℕ → Bool
+is_idle p = nat_lt idle_limit (length p) && reads p idle_limit && (shapes_in (begun find_budget (take idle_limit p)).entries == 0)
