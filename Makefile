@@ -50,8 +50,6 @@ streams:  ## try the wrong bodies of the gate by two streams each
 	python3 -m dev.try_streams $(ARGS)
 faults:  ## plant faults in a copy, and see whether the tests find them
 	python3 -m dev.try_faults $(ARGS)
-first-changes:  ## go the way of CONTRIBUTING with five small changes in copies
-	python3 -m dev.try_first_changes $(ARGS)
 bare-systems:  ## as root: try a clone in bare Debian systems, which are made in a FOLDER
 	python3 -m dev.try_bare_systems $(ARGS)
 fuzz-library fuzz-lines:  ## compare the library with the program, and with a model of lines, by chance
@@ -62,9 +60,7 @@ measure-speed measure-module measure-pages measure-scale:  ## commands and libra
 	python3 -m dev.$(subst -,_,$@) $(ARGS)
 measure-box measure-wall:  ## in Chromium: the page with a box of files, and the wall of a served report
 	python3 -m dev.$(subst -,_,$@) $(ARGS)
-measure-hostile measure-worst-pages measure-worst-pictures:  ## what costs most: instructions, time, memory
+measure-worst-pages measure-worst-pictures:  ## what costs most: time and memory
 	python3 -m dev.$(subst -,_,$@) $(ARGS)
-gate-minutes:  ## prove all from nothing: the minutes of each crate
-	python3 -m dev.gate_minutes $(ARGS)
-source-lines sources-sum:  ## lines of each crate of the product, and checksums of the sources
-	python3 -m dev.$(subst -,_,$@) $(ARGS)
+sources-sum:  ## checksums of the sources
+	python3 -m dev.sources_sum $(ARGS)

@@ -18,8 +18,8 @@ import sys
 from argparse import Namespace
 from pathlib import Path
 
-from dev.layout import TOP, stop
-from dev.packaging.for_browsers import FOLDER, MODULE, PAGE, keep, keep_page
+from dev.layout import TOP, stop, write_files
+from dev.packaging.for_browsers import FOLDER, MODULE, PAGE, make, make_page
 from dev.packaging.for_pages import element, page, player_scripts
 from dev.packaging.kept import NotProved
 from dev.packaging.webassembly import NotMade
@@ -43,17 +43,6 @@ def words() -> Namespace:
     return options
 
 
-def keep_parts(is_page: bool) -> str:
-    """Makes dist/browser or its page, and the scripts of players; a line of what that is."""
-    for path, script in player_scripts().items():
-        path.write_text(script, "utf-8")
-    if is_page:
-        keep_page()
-        return f"{KEPT.relative_to(TOP)} is that of these sources"
-    keep()
-    return f"{FOLDER.relative_to(TOP)} is that of the code in crates/nap_c/out"
-
-
 def main() -> int:
     """Makes what is named."""
     options = words()
@@ -61,7 +50,11 @@ def main() -> int:
         if options.element:
             options.element.write_text(element(), "utf-8")
         elif options.page in (None, KEPT):
-            print(keep_parts(options.page == KEPT))
+            for path, script in player_scripts().items():
+                path.write_text(script, "utf-8")
+            write_files(FOLDER, make_page() if options.page else make())
+            made_of = "these sources" if options.page else "the code in crates/nap_c/out"
+            print(f"{(options.page or FOLDER).relative_to(TOP)} is that of {made_of}")
         else:
             options.page.write_text(page((options.module or FOLDER / MODULE).read_bytes()), "utf-8")
     except (NotMade, NotProved, OSError) as error:

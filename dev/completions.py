@@ -28,13 +28,11 @@ def main() -> int:
     parser.add_argument("--check", action="store_true", help="write nothing, and name the files that differ: status 1")
     is_check, status = parser.parse_args().check, 0
     for path, text in texts().items():
-        if path.read_text("utf-8") == text:
-            continue
-        if is_check:
+        if not is_check:
+            path.write_text(text, "utf-8")
+        elif path.read_text("utf-8") != text:
             print(f"{path.relative_to(TOP)} isn't as the commands declare: python3 -m dev.completions writes it")
             status = 1
-        else:
-            path.write_text(text, "utf-8")
     return status
 
 

@@ -1,15 +1,6 @@
 """The crates of crates.txt, and on which others each of them stands, and their sources."""
 from pathlib import Path
-from typing import Dict, List, Sequence
-
-# What is made of crates: the program, and the libraries for C and for Rattle.
-PRODUCTS = ("nap_cli", "nap_c", "naplps")
-
-
-def crates_of_product(top: Path, products: Sequence[str] = PRODUCTS) -> List[str]:
-    """The crates of what is made, without those of tests: of each product in turn, lowest first."""
-    crates = crates_in(top)
-    return list(dict.fromkeys(name for product in products for name in below(product, crates)))
+from typing import Dict, List
 
 
 def crates_in(top: Path) -> Dict[str, List[str]]:

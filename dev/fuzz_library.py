@@ -5,16 +5,16 @@ rooms of several sizes; and its list is made into a page again. Both have to wri
 the same streams. It prints how far it is. NAPLPS names the program, and NAPLPS_LIBRARY the folder of the library. The
 last line is 'N passed, M failed', in streams.
 """
-import subprocess
 import sys
 import tempfile
 import time
 from pathlib import Path
+from subprocess import PIPE
 from typing import Iterator, List, NamedTuple, Tuple
 
 from dev.fuzzing.library_tests import build
 from dev.fuzzing.streams import Streams
-from dev.judging import Judge
+from dev.judging import Judge, run
 from dev.layout import find_library, find_program
 from dev.vectors.batch import answers
 from dev.words import parser_of
@@ -41,12 +41,6 @@ def requests_of(streams: Asked, commands: Tuple[str, ...]) -> Iterator[bytes]:
             yield f"{command} {budget} {len(stream)}\n".encode() + stream
 
 
-def told(words: List[str], text: bytes) -> Tuple[int, bytes, bytes]:
-    """The status and both outputs of a run."""
-    run = subprocess.run(words, input=text, stdout=subprocess.PIPE, stderr=subprocess.PIPE)
-    return run.returncode, run.stdout, run.stderr
-
-
 def lists_of(both: Both, streams: Asked) -> Asked:
     """The lists of those streams that are accepted, each as it is and with a byte more in its midst."""
     asked = [("list", budget, stream) for budget, stream in streams]
@@ -59,9 +53,9 @@ def lists_of(both: Both, streams: Asked) -> Asked:
 def agrees(both: Both, streams: Asked) -> bool:
     """Whether both answer streams and their lists alike, and the library what only it knows."""
     text = b"".join([*requests_of(streams, COMMANDS), *requests_of(lists_of(both, streams), ("make",))])
-    if told([str(both.program), "batch"], text) != told([str(both.requests)], text):
+    if run([str(both.program), "batch"], text, stdin=PIPE) != run([str(both.requests)], text, stdin=PIPE):
         return False
-    return told([str(both.requests)], b"".join(requests_of(streams, OWN)))[0] == 0
+    return run([str(both.requests)], b"".join(requests_of(streams, OWN)), stdin=PIPE).status == 0
 
 
 def lost(both: Both, streams: Asked) -> Asked:
@@ -106,7 +100,4 @@ def main() -> int:
 
 
 if __name__ == "__main__":
-    try:
-        sys.exit(main())
-    except KeyboardInterrupt:
-        sys.exit(130)
+    sys.exit(main())

@@ -13,7 +13,7 @@ import sys
 import tempfile
 import time
 from pathlib import Path
-from typing import Iterator, List, NamedTuple, Optional, Tuple
+from typing import List, NamedTuple, Optional, Tuple
 
 from dev.fuzzing.library_tests import WRAPPED, build
 from dev.fuzzing.line_model import NO_LINE, fault_of
@@ -111,17 +111,13 @@ def try_chunk(asked: Tuple[str, str, int]) -> Tuple[int, List[str]]:
     return refused, found
 
 
-def chunks(name: str, seed: int, count: int) -> Iterator[Tuple[str, str, int]]:
-    """What each process is asked in turn."""
-    for begin in range(0, count, CHUNK):
-        yield name, str(seed * 1_000_000 + begin // CHUNK), min(CHUNK, count - begin)
-
-
 def compare(judge: Judge, name: str, seed: int, count: int) -> None:
     """Compares so many inputs, as many processes as there are processors at once."""
     start, said, done, refused = time.monotonic(), 0.0, 0, 0
+    chunks = [(name, str(seed * 1_000_000 + begin // CHUNK), min(CHUNK, count - begin))
+              for begin in range(0, count, CHUNK)]
     with multiprocessing.Pool(len(os.sched_getaffinity(0))) as pool:
-        for lacked, found in pool.imap(try_chunk, chunks(name, seed, count)):
+        for lacked, found in pool.imap(try_chunk, chunks):
             done, refused = min(count, done + CHUNK), refused + lacked
             for what in found:
                 judge.take(False, what)
@@ -146,7 +142,4 @@ def main() -> int:
 
 
 if __name__ == "__main__":
-    try:
-        sys.exit(main())
-    except KeyboardInterrupt:
-        sys.exit(130)
+    sys.exit(main())

@@ -3,8 +3,7 @@ import contextlib
 import resource
 import signal
 import subprocess
-import sys
-from typing import Any, Optional, Sequence, Union
+from typing import Any, NamedTuple, Optional, Sequence, Union
 
 # How many seconds of a processor a command may take, so that a busy machine fails none; and how many by the clock, for
 # one that waits for what never comes.
@@ -13,21 +12,15 @@ PATIENCE = 3600
 LATE = "none in time"
 
 
-class Answer:
+class Answer(NamedTuple):
     """What a run answered, or should."""
 
-    def __init__(self, status: Union[int, str], out: bytes = b"", err: bytes = b"") -> None:
-        self.status = status
-        self.out = out
-        self.err = err
+    status: Union[int, str]
+    out: bytes = b""
+    err: bytes = b""
 
-    def __eq__(self, other: object) -> bool:
-        return isinstance(other, Answer) and (self.status, self.out, self.err) == (other.status, other.out, other.err)
-
-    def __str__(self) -> str:
+    def __repr__(self) -> str:
         return f"status {self.status}, output {shown(self.out)}, error {shown(self.err)}"
-
-    __repr__ = __str__
 
 
 def shown(text: bytes) -> str:
@@ -75,9 +68,7 @@ class Judge:
     """Counts what passed and what failed, and prints a line for each group of runs."""
 
     def __init__(self) -> None:
-        self.passed = 0
-        self.failed = 0
-        self.wrong = 0
+        self.passed = self.failed = self.wrong = 0
 
     def take(self, right: bool, what: str) -> None:
         """Counts a run, and says what was wrong with it."""
@@ -95,12 +86,8 @@ class Judge:
 
     def close(self, line: str) -> None:
         """Ends a group."""
-        if self.wrong == 0:
-            print(f"ok: {line}")
-        else:
-            print(f"FAILED: {line}: {self.wrong} of its runs")
+        print(f"FAILED: {line}: {self.wrong} of its runs" if self.wrong else f"ok: {line}", flush=True)
         self.wrong = 0
-        sys.stdout.flush()
 
     def end(self) -> int:
         """Prints how many passed and failed, and answers the exit status."""

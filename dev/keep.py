@@ -78,12 +78,11 @@ def keep(log: str, earlier: str, sums: Dict[str, str]) -> None:
     of_sources = {"program-sources": sums["nap_cli"], "library-sources": sums["nap_c"]}
     of_files = {OF_FILES: files_sum("nap_cli"), **{name: file_sum(path) for name, path in files.items()}}
     made = made_of({**of_sources, **of_files, "toolchain": ask("rt", "version"), **of_crates})
-    changed = {name: File(path.read_bytes(), MODES[name]) for name, path in files.items()}
-    write_files(KEPT, {name: file for name, file in changed.items() if not is_there(name, file)})
+    write_files(KEPT, {name: File(path.read_bytes(), MODES[name]) for name, path in files.items()})
     write_files(KEPT, {MADE.name: made})
-    for part, put in (("module", for_browsers.keep), ("page", for_browsers.keep_page)):
+    for part, make in (("module", for_browsers.make), ("page", for_browsers.make_page)):
         try:
-            put()
+            write_files(for_browsers.FOLDER, make())
             return
         except NotMade as error:
             print(f"the {part} of dist/browser stays as it was: {error}")
@@ -96,12 +95,6 @@ def renew() -> None:
         if made.get(name) != sources_sum(crate):
             raise NotProved(f"more than comments and layout changed since {MADE} was made")
     write_files(KEPT, {MADE.name: made_of({**made, OF_FILES: files_sum("nap_cli")})})
-
-
-def is_there(name: str, file: File) -> bool:
-    """Whether dist has a file already."""
-    path = KEPT / name
-    return path.is_file() and path.read_bytes() == file.data and path.stat().st_mode & 0o777 == file.mode
 
 
 def main() -> int:

@@ -10,21 +10,15 @@ import resource
 import subprocess
 import sys
 import time
+from itertools import islice
 from typing import Callable, Iterator, List, Optional
 
+from dev.measuring.few_codes import short_pages
+from dev.measuring.tables import head, row
 from dev.words import parser_of
 
-LENGTH = 650
+PAGES = 1000
 CALLS = ("check", "canon", "lines", "entries", "places", "canon_form1", "is_plain")
-
-
-def pages() -> List[bytes]:
-    """1,000 pages, each another one."""
-    asked = subprocess.run([sys.executable, "-m", "dev.measure_speed", "--asked", "check"], stdout=subprocess.PIPE,
-                           check=True).stdout
-    line = asked.index(b"\n") + 1
-    size = line + LENGTH
-    return [asked[at + line:at + size] for at in range(0, 1000 * size, size)]
 
 
 def spent() -> float:
@@ -49,7 +43,7 @@ def measured(runs: int) -> Iterator[Optional[float]]:
     """The time of each call, None where there is none, over what the variables name."""
     import naplps
     from naplps.backends import ProgramBackend, found
-    teller, data = found(), pages()
+    teller, data = found(), [*islice(short_pages(), PAGES)]
     end = teller.close if isinstance(teller, ProgramBackend) else lambda: None
     for name in CALLS:
         try:
@@ -74,9 +68,9 @@ def main() -> int:
     if given.column:
         print("\n".join("" if it is None else "%.1f" % it for it in measured(given.runs)))
         return 0
-    print("| Call | over the library | over the program |\n|---|---|---|")
+    head("Call", "over the library", "over the program")
     for name, first, second in zip(CALLS, column(None, given.runs), column("", given.runs)):
-        print("| `%s` | %s | %s |" % (name, first, second))
+        row(f"`{name}`", first, second)
     return 0
 
 

@@ -14,26 +14,21 @@ import sys
 import tempfile
 import time
 from pathlib import Path
-from typing import Iterable, Iterator, List, Tuple
+from typing import Iterator, List, NamedTuple, Tuple
 
 from dev.fuzzing.library_tests import build
-from dev.layout import TOP, find_library
-from dev.measuring.few_codes import FewCodes
+from dev.layout import find_library, find_program
+from dev.measuring.few_codes import LENGTH, SHORT_PAGES, short_pages
 from dev.measuring.instructions import for_a_byte
 from dev.measuring.large_pages import FAMILIES, KINDS, MIB, page
+from dev.measuring.tables import head, row
 from dev.words import parser_of
 
 AGAIN = (sys.executable, "-m", "dev.measure_speed")
 # The calls of a page charge fewer bytes than the page has.
 BUDGET = 64 * MIB
 FAMILY_NAMES = {"few": "few codes", "every": "every code", "dense": "many codes"}
-
-COMMANDS = {
-    "check": ["check"],
-    "canon --stream": ["canon", "--stream"],
-    "canon": ["canon"],
-    "list": ["list"],
-}
+COMMANDS = {"check": ["check"], "canon --stream": ["canon", "--stream"], "canon": ["canon"], "list": ["list"]}
 
 
 def budgeted(words: List[str]) -> List[str]:
@@ -41,9 +36,17 @@ def budgeted(words: List[str]) -> List[str]:
     return [*words, "--budget", str(BUDGET)]
 
 
-def run(program: str, words: List[str], name: str) -> Tuple[float, float]:
-    """Seconds and peak MiB."""
-    command = [program, *budgeted(words)]
+class Run(NamedTuple):
+    """What a run took: seconds, those of a processor, and MiB at its peak."""
+
+    seconds: float
+    processor: float
+    peak: float
+
+
+def run(program: str, words: List[str], name: str) -> Run:
+    """What a command takes on a file."""
+    command = [program, *words]
     with open(name, "rb") as source, open(os.devnull, "wb") as sink:
         start = time.perf_counter()
         process = subprocess.Popen(command, stdin=source, stdout=sink, stderr=subprocess.PIPE)
@@ -53,68 +56,42 @@ def run(program: str, words: List[str], name: str) -> Tuple[float, float]:
         seconds = time.perf_counter() - start
     if os.waitstatus_to_exitcode(status) != 0:
         sys.exit(f"measure_speed: {program} {' '.join(words)}: {told.decode(errors='replace').strip()}")
-    return seconds, usage.ru_maxrss / 1024
-
-
-# Requests to `batch`: their number, and the bytes of the mixed page of each.
-REQUESTS, REQUEST = 20000, 650
-
-
-def short_pages() -> Iterator[bytes]:
-    """Mixed pages of one length, each another one, with NUL after the last piece that fits."""
-    pages = FewCodes("requests")
-    for _ in range(REQUESTS):
-        made, piece = b"", b""
-        while len(made) + len(piece) <= REQUEST:
-            made, piece = made + piece, pages.mixed()
-        yield made.ljust(REQUEST, b"\0")
+    return Run(seconds, usage.ru_utime + usage.ru_stime, usage.ru_maxrss / 1024)
 
 
 def asked(command: str) -> bytes:
     """The requests for a command."""
-    line = f"{command} {BUDGET} {REQUEST}\n".encode()
+    line = f"{command} {BUDGET} {LENGTH}\n".encode()
     return b"".join(line + made for made in short_pages())
 
 
-def request_row(command: str, program: str, name: str, count: int) -> str:
-    """Microseconds a page, of user and system time: the least of the runs."""
-    times, peaks = [], []
-    for _ in range(count):
-        with open(name, "rb") as source, open(os.devnull, "wb") as sink:
-            process = subprocess.Popen([program, "batch"], stdin=source, stdout=sink)
-            _, status, usage = os.wait4(process.pid, 0)
-        if os.waitstatus_to_exitcode(status) != 0:
-            sys.exit(f"measure_speed: {program} batch: status {status}")
-        times.append((usage.ru_utime + usage.ru_stime) / REQUESTS * 1000000)
-        peaks.append(usage.ru_maxrss / 1024)
-    return f"| `{command}` | {min(times):.1f} | {max(peaks):.0f} |"
-
-
 def requests(program: str, count: int) -> None:
-    """The table of `batch`."""
-    print("| Request | microseconds a page | peak MiB |\n|---|---|---|")
+    """The table of `batch`: microseconds of a processor for a page, the least of the runs."""
+    head("Request", "microseconds a page", "peak MiB")
     with tempfile.TemporaryDirectory() as room:
         for command in ("check", "list", "canon", "places"):
             name = os.path.join(room, command)
             with open(name, "wb") as file:
                 subprocess.run([*AGAIN, "--asked", command], stdout=file, check=True)
-            print(request_row(command, program, name, count), flush=True)
+            runs = [run(program, ["batch"], name) for _ in range(count)]
+            least_time = min(each.processor for each in runs) / SHORT_PAGES * 1e6
+            row(f"`{command}`", f"{least_time:.1f}", f"{max(each.peak for each in runs):.0f}")
 
 
 def calls(count: int) -> None:
     """Microseconds a call of the library on the pages of `batch`: the least of the runs."""
-    print("| Call | microseconds |\n|---|---|")
+    head("Call", "microseconds")
     with tempfile.TemporaryDirectory() as room:
         program = build(Path(room), "speed", find_library().absolute(), ["-O2"])
         told = subprocess.run([program, str(count)], input=asked("check"), stdout=subprocess.PIPE, check=True).stdout
     for line in told.decode().splitlines():
         name, time_of_call = line.split()
-        print(f"| `naplps_{name.replace('form1', 'canon_form1')}` | {time_of_call} |")
+        row(f"`naplps_{name.replace('form1', 'canon_form1')}`", time_of_call)
 
 
-def least(runs: List[Tuple[float, float]]) -> Tuple[float, float]:
+def least(runs: List[Run]) -> Tuple[float, float]:
     """The least time of some runs, and the most memory."""
-    return min(seconds for seconds, _ in runs), max(peak for _, peak in runs)
+    return min(each.seconds for each in runs), max(each.peak for each in runs)
 
 
 def measured(words: str, given: argparse.Namespace, program: str, name: str) -> Tuple[str, str]:
@@ -122,9 +99,9 @@ def measured(words: str, given: argparse.Namespace, program: str, name: str) -> 
     most memory of both."""
     ours, theirs = [], []
     for _ in range(given.runs):
-        ours.append(run(program, COMMANDS[words], name))
+        ours.append(run(program, budgeted(COMMANDS[words]), name))
         if given.beside:
-            theirs.append(run(given.beside, COMMANDS[words], name))
+            theirs.append(run(given.beside, budgeted(COMMANDS[words]), name))
     seconds, peak = least(ours)
     speed = os.path.getsize(name) / MIB / seconds
     if not given.beside:
@@ -133,16 +110,10 @@ def measured(words: str, given: argparse.Namespace, program: str, name: str) -> 
     return f"{speed:.0f}, {other / seconds:.2f}", f"{peak:.0f}, {other_peak:.0f}"
 
 
-def row(kind: str, cells: Iterable[str]) -> None:
-    """Prints the row of a page."""
-    print(f"| {kind} | " + " | ".join(cells) + " |", flush=True)
-
-
-def head(what: str) -> None:
-    """Prints the head of a table."""
-    print(f"{what}:\n")
-    row("Page", (f"`{words}`" for words in COMMANDS))
-    print("|---" * (1 + len(COMMANDS)) + "|", flush=True)
+def head_of_commands(title: str) -> None:
+    """Prints the head of a table with a column for each command."""
+    print(f"{title}:\n")
+    head("Page", *(f"`{words}`" for words in COMMANDS))
 
 
 def pages_of(family: str, given: argparse.Namespace, folder: str) -> Iterator[Tuple[str, str]]:
@@ -160,17 +131,17 @@ def pages_of(family: str, given: argparse.Namespace, folder: str) -> Iterator[Tu
 def tables(family: str, given: argparse.Namespace, program: str) -> None:
     """The tables of whole commands on large pages: how fast they are, and their memory."""
     beside = ", and how many times as fast as the other program" if given.beside else ""
-    head(f"Pages of {FAMILY_NAMES[family]}, MiB a second{beside}")
+    head_of_commands(f"Pages of {FAMILY_NAMES[family]}, MiB a second{beside}")
     peaks = {}
     with tempfile.TemporaryDirectory() as folder:
         for kind, name in pages_of(family, given, folder):
             found = [measured(words, given, program, name) for words in COMMANDS]
-            row(kind, (speed for speed, _ in found))
+            row(kind, *(speed for speed, _ in found))
             peaks[kind] = [peak for _, peak in found]
     print()
-    head(f"most MiB of memory{', and those of the other program' if given.beside else ''}")
+    head_of_commands(f"most MiB of memory{', and those of the other program' if given.beside else ''}")
     for kind, cells in peaks.items():
-        row(kind, cells)
+        row(kind, *cells)
     print()
 
 
@@ -185,10 +156,10 @@ def instructions(words: str, given: argparse.Namespace, program: str, name: str)
 def counts(family: str, given: argparse.Namespace, program: str) -> None:
     """The table of instructions for each byte."""
     beside = ", and how many times as many the other program takes" if given.beside else ""
-    head(f"Pages of {FAMILY_NAMES[family]}, instructions for each byte{beside}")
+    head_of_commands(f"Pages of {FAMILY_NAMES[family]}, instructions for each byte{beside}")
     with tempfile.TemporaryDirectory() as folder:
         for kind, name in pages_of(family, given, folder):
-            row(kind, (instructions(words, given, program, name) for words in COMMANDS))
+            row(kind, *(instructions(words, given, program, name) for words in COMMANDS))
     print()
 
 
@@ -220,14 +191,6 @@ def arguments() -> argparse.Namespace:
     return given
 
 
-def find_built() -> str:
-    """The program that NAPLPS names, or the one that the launcher has built."""
-    program = os.environ.get("NAPLPS") or str(TOP / "out" / "naplps")
-    if not os.access(program, os.X_OK):
-        sys.exit(f"measure_speed: there is no program {program}")
-    return program
-
-
 def main() -> int:
     """Prints the table that is asked for, or makes what a table is of."""
     given = arguments()
@@ -238,10 +201,10 @@ def main() -> int:
     elif given.library:
         calls(given.runs)
     elif given.requests:
-        requests(find_built(), given.runs)
+        requests(str(find_program()), given.runs)
     else:
         for family in [given.family] if given.family else FAMILIES:
-            (counts if given.count else tables)(family, given, find_built())
+            (counts if given.count else tables)(family, given, str(find_program()))
     return 0
 
 

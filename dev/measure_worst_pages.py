@@ -9,13 +9,15 @@ import subprocess
 import sys
 import tempfile
 import time
-from typing import Callable, List, Sequence, Tuple
+from typing import List, Sequence, Tuple
 
-from dev.layout import TOP, stop
+from dev.judging import Judge
+from dev.layout import find_program
 from dev.measuring.costly_pages import (
     CALLED, POLYGONS, UNCALLED, Kind, Made, Maker, bells, circles, crowded, descents, drcs_repeats, endless, fields,
     plain_repeats, polygons, rectangles, wide_repeats,
 )
+from dev.measuring.tables import head, row
 from dev.words import parser_of
 
 KIB = 1024
@@ -56,24 +58,13 @@ class Trial:
     def __init__(self, program: str, folder: str) -> None:
         self.program = program
         self.page, self.out, self.told = (os.path.join(folder, name) for name in ("page", "out", "told"))
-        self.passed = self.failed = 0
-
-    def judge(self, what: str, right: bool, seen: object) -> None:
-        """Counts what was looked at, and says what was wrong."""
-        if right:
-            self.passed += 1
-        else:
-            self.failed += 1
-            print(f"FAILED: {what}: {seen}", flush=True)
+        self.judge = Judge()
 
     def once(self, words: Sequence[str], space: int = SPACE) -> Tuple[int, float, int]:
         """One run: its status, its time in seconds of a processor, and its peak memory in bytes."""
         files = [self.page, self.out, self.told]
-        told = subprocess.run(
-            [sys.executable, "-I", "-S", "-c", HELPER, *files, str(space), self.program, *words],
-            stdout=subprocess.PIPE,
-            check=True,
-        ).stdout.split()
+        helper = [sys.executable, "-I", "-S", "-c", HELPER, *files, str(space), self.program, *words]
+        told = subprocess.run(helper, stdout=subprocess.PIPE, check=True).stdout.split()
         return int(told[0]), float(told[1]), int(told[2]) * KIB
 
     def run(self, name: str, made: Made, command: str, budget: int) -> Tuple[float, int]:
@@ -92,7 +83,7 @@ class Trial:
         self.judge_answer(what, made, command, status)
         kept = {"list": 2 * len(made.page), "canon": made.text, "check --hex": 8 * len(made.page)}.get(command, 0)
         most = STILL + DEEP * max(0, budget - USUAL) + kept
-        self.judge(f"{what}: memory", peak < most, f"{peak} bytes, and not below {most}")
+        self.judge.take(peak < most, f"{what}: memory: {peak} bytes, and not below {most}")
         return least, peak
 
     def stops(self, made: Made) -> None:
@@ -103,7 +94,7 @@ class Trial:
             error = told.read().decode()
         print(f"\nThe longest text in {shown_length(NARROW)}: {error}", end="", flush=True)
         right = status == 1 and error.startswith("refused 21 Memory at ") and os.stat(self.out).st_size == 0
-        self.judge("a text that is too long for its memory", right, (status, error))
+        self.judge.take(right, f"a text that is too long for its memory: {status}, {error}")
 
     def write(self, page: bytes) -> None:
         """Writes the page that the program reads."""
@@ -112,21 +103,17 @@ class Trial:
 
     def judge_answer(self, what: str, made: Made, command: str, status: int) -> None:
         """Judges the answer of a run."""
-        with open(self.told, "rb") as told:
-            error = told.read().decode()
-        size = os.stat(self.out).st_size
-        with open(self.out, "rb") as out:
-            first = out.read(100).decode("ascii", "replace")
+        with open(self.told, "rb") as told, open(self.out, "rb") as out:
+            error, first = told.read().decode(), out.read(100).decode("ascii", "replace")
+        answer: Tuple[object, ...] = status, first, error
+        expected: Tuple[object, ...] = 0, f"accepted {made.entries} entries\n", ""
         if made.refusal is not None:
-            answer = first if command.startswith("check") else error
-            self.judge(what, (status, answer) == (1, made.refusal + "\n"), (status, answer))
-        elif command.startswith("check"):
-            wanted = (0, f"accepted {made.entries} entries\n", "")
-            self.judge(what, (status, first, error) == wanted, (status, first, error, "but computed", made.entries))
-        else:
-            length = made.lines if command == "list" else made.text
-            right = (status, size, error) == (0, length, "")
-            self.judge(what, right, (status, size, error, "but computed", length))
+            answer = status, first if command.startswith("check") else error
+            expected = 1, made.refusal + "\n"
+        elif not command.startswith("check"):
+            answer = status, os.stat(self.out).st_size, error
+            expected = 0, made.lines if command == "list" else made.text, ""
+        self.judge.take(answer == expected, f"{what}: {answer}, but computed {expected}")
 
 
 def shown_bytes(count: int) -> str:
@@ -148,77 +135,43 @@ def shown_length(length: int) -> str:
     return f"{length // MIB} MiB" if length >= MIB else f"{length // KIB} KiB"
 
 
-def head(*names: str) -> None:
-    """Prints the head of a table."""
-    print("\n| " + " | ".join(names) + " |\n|" + "---|" * len(names), flush=True)
-
-
-def row(*cells: str) -> None:
-    """Prints a row of a table."""
-    print("| " + " | ".join(cells) + " |", flush=True)
-
-
-def pages_of(families: Sequence[Kind], *lengths: int) -> List[Tuple[str, Callable[[], Maker], int]]:
+def pages_of(families: Sequence[Kind], *lengths: int) -> List[Tuple[str, Maker, int]]:
     """A page of each family in each length."""
-    return [(name, build, length) for name, build in families for length in lengths]
+    return [(name, make, length) for name, make in families for length in lengths]
 
 
-def table_of_check(trial: Trial, pages: Sequence[Tuple[str, Callable[[], Maker], int]], budget: int,
+def table_of_check(trial: Trial, pages: Sequence[Tuple[str, Maker, int]], budget: int,
                    command: str = "check") -> None:
     """Prints the table of what `check` costs."""
     head("Page", "Bytes in", "Charged", "Entries", "Entries for a byte", "Time", "Memory")
-    for name, build, length in pages:
-        made = build()(length, budget)
+    for name, make, length in pages:
+        made = make(length, budget)
         least, peak = trial.run(name, made, command, budget)
         each = made.entries / (length + made.charged)
-        row(
-            name,
-            shown_length(length),
-            f"{made.charged:,}",
-            f"{made.entries:,}" if made.refusal is None else "refused",
-            f"{each:.2f}",
-            shown_time(least),
-            shown_bytes(peak),
-        )
+        row(name, shown_length(length), f"{made.charged:,}",
+            f"{made.entries:,}" if made.refusal is None else "refused", f"{each:.2f}", shown_time(least),
+            shown_bytes(peak))
 
 
-def table_of_output(trial: Trial, pages: Sequence[Tuple[str, Callable[[], Maker], str, int, int]]) -> None:
+def table_of_output(trial: Trial, pages: Sequence[Tuple[str, Maker, str, int, int]]) -> None:
     """Prints the table of what lists and texts cost."""
     head("Page", "Command", "Bytes in", "Charged", "Entries", "Bytes out", "Bytes for a byte", "Time", "Memory")
-    for name, build, command, length, budget in pages:
-        made = build()(length, budget)
+    for name, make, command, length, budget in pages:
+        made = make(length, budget)
         least, peak = trial.run(name, made, command, budget)
         out = made.lines if command == "list" else made.text
-        row(
-            name,
-            f"`{command}`",
-            shown_length(length),
-            f"{made.charged:,}",
-            f"{made.entries:,}",
-            shown_bytes(out),
-            f"{out / (length + made.charged):.0f}",
-            shown_time(least),
-            shown_bytes(peak),
-        )
+        row(name, f"`{command}`", shown_length(length), f"{made.charged:,}", f"{made.entries:,}", shown_bytes(out),
+            f"{out / (length + made.charged):.0f}", shown_time(least), shown_bytes(peak))
 
 
-def processor() -> str:
-    """The processor, by its name."""
-    with open("/proc/cpuinfo", encoding="ascii", errors="replace") as info:
-        for text in info:
-            if text.startswith("model name"):
-                return f"{text.split(':', 1)[1].strip()}, of which there are {os.cpu_count()}"
-    return "a processor without a name"
-
-
-def largest_pages() -> List[Tuple[str, Callable[[], Maker], int]]:
+def largest_pages() -> List[Tuple[str, Maker, int]]:
     """The slowest pages, long enough to be charged with the largest budget, and the one that holds most."""
     slowest = (plain_repeats, rectangles, circles, fields, endless, descents)
     pages = pages_of([kind for kind in CALLED if kind[1] in slowest], 2 * KIB)
     return pages + pages_of([kind for kind in CALLED if kind[1] == crowded], 2 * KIB, MIB)
 
 
-def outputs(widest: bool) -> List[Tuple[str, Callable[[], Maker], str, int, int]]:
+def outputs(widest: bool) -> List[Tuple[str, Maker, str, int, int]]:
     """Pages whose lists or texts are longest."""
     widths = [
         ("widest characters by REPEAT", wide_repeats, "list", KIB, SMALL),
@@ -244,13 +197,10 @@ def main() -> int:
     parser.add_argument("--widest", action="store_true",
                         help="with the longest list of a page of 1 KiB under the usual budget, which is 2.15 GB")
     widest = parser.parse_args().widest
-    program = os.path.abspath(os.environ.get("NAPLPS") or TOP / "naplps")
-    if subprocess.run([program, "--help"], stdout=subprocess.DEVNULL).returncode != 0:
-        raise stop(f"there is no program {program}")
+    program = str(find_program().absolute())
     with tempfile.TemporaryDirectory() as folder:
         trial = Trial(program, folder)
         trial.write(b"")
-        print(f"Processor: {processor()}")
         _, taken, memory = trial.once(["check"])
         print(f"An empty page: {shown_time(taken)}, {shown_bytes(memory)}")
         lengths = (KIB, 32 * KIB, MIB)
@@ -264,9 +214,9 @@ def main() -> int:
         table_of_check(trial, pages_of([("bells", bells)], *lengths), USUAL, "check --hex")
         print("\nlist and canon:")
         table_of_output(trial, outputs(widest))
-        trial.stops(drcs_repeats()(KIB, USUAL))
-        print(f"\n{trial.passed} passed, {trial.failed} failed")
-    return 1 if trial.failed else 0
+        trial.stops(drcs_repeats(KIB, USUAL))
+        print()
+    return trial.judge.end()
 
 
 if __name__ == "__main__":

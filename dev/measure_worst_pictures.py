@@ -12,8 +12,9 @@ import subprocess
 import sys
 import tempfile
 import time
-from typing import Callable, Dict, List, NamedTuple, Tuple
+from typing import Callable, Dict, List, Tuple
 
+from dev.measuring.tables import head, row
 from dev.words import parser_of
 from naplps import drawing
 
@@ -24,17 +25,6 @@ SCREEN = "0,0 %d,%d" % (ONE, HIGH)
 MANY, SOME = 19_000, 99
 BROWSER = ["chromium", "--headless", "--no-sandbox", "--disable-gpu", "--hide-scrollbars", "--no-first-run",
            "--host-resolver-rules=MAP * ~NOTFOUND", "--window-size=1024,1080"]
-
-
-class Measured(NamedTuple):
-    """What a picture costs: entries drawn, of how many; bytes; bytes of memory; seconds; seconds of Chromium."""
-
-    drawn: int
-    entries: int
-    size: int
-    memory: int
-    seconds: float
-    shown: float
 
 
 def places(number: int, most: int = HIGH) -> str:
@@ -163,13 +153,16 @@ def show(path: str, folder: str) -> float:
     return time.monotonic() - began
 
 
-def measure(name: str, folder: str) -> Measured:
-    """Measures a kind of page."""
+def is_within_bounds(name: str, folder: str) -> bool:
+    """Measures a kind of page, and prints its row; whether it costs no more than a page may."""
     random.seed(1)
     lines = KINDS[name]()
     path = os.path.join(folder, "picture.svg")
     drawn, memory, seconds = draw(lines, path)
-    return Measured(int(drawn), len(lines), os.path.getsize(path), int(memory), seconds, show(path, folder))
+    size, shown = os.path.getsize(path), show(path, folder)
+    row(name, f"{drawn:,.0f}", f"{len(lines):,}", f"{size:,}", f"{memory / 1e6:.0f} MB", f"{seconds:.2f} s",
+        f"{shown:.1f} s")
+    return size <= MOST_BYTES and memory <= MOST_MEMORY and shown <= MOST_SECONDS
 
 
 def main() -> int:
@@ -184,16 +177,13 @@ def main() -> int:
         print("not tried: there is no chromium (Debian: apt-get install chromium)")
         return 77
     wrong = []
-    print("| Page | Entries drawn | of | Bytes | Memory | Time | Chromium |\n|---|---|---|---|---|---|---|")
+    head("Page", "Entries drawn", "of", "Bytes", "Memory", "Time", "Chromium")
     for name in names or KINDS:
         with tempfile.TemporaryDirectory(prefix="naplps-") as folder:
-            it = measure(name, folder)
-        print("| {} | {:,} | {:,} | {:,} | {} MB | {:.2f} s | {:.1f} s |".format(
-            name, it.drawn, it.entries, it.size, it.memory // 10**6, it.seconds, it.shown), flush=True)
-        if it.size > MOST_BYTES or it.memory > MOST_MEMORY or it.shown > MOST_SECONDS:
-            wrong.append(name)
+            if not is_within_bounds(name, folder):
+                wrong.append(name)
     for name in wrong:
-        print("too much: %s" % name)
+        print(f"too much: {name}")
     return 1 if wrong else 0
 
 

@@ -12,6 +12,7 @@ the scripts of those packages left stays: users, folders, links. Remove FOLDER/S
 """
 import os
 import re
+import shlex
 import shutil
 import subprocess
 import sys
@@ -95,7 +96,7 @@ class Root:
         env = {"PATH": "/usr/sbin:/usr/bin:/sbin:/bin", "HOME": "/root", "LC_ALL": "C", **options.pop("env", {})}
         if "user" in options:
             identity = options.pop("user")
-            line = f"exec setpriv --reuid={identity} --regid={identity} --clear-groups sh -c {quoted(line)}"
+            line = f"exec setpriv --reuid={identity} --regid={identity} --clear-groups sh -c {shlex.quote(line)}"
         said = subprocess.run(["/bin/sh", "-c", line], preexec_fn=enter, env=env, stdin=subprocess.DEVNULL,
                               stdout=subprocess.PIPE, stderr=subprocess.PIPE)
         return Answer(said.returncode, said.stdout, said.stderr)
@@ -123,11 +124,6 @@ class Root:
     def installs(self, *packages: str) -> None:
         """Debian's packages are installed."""
         self.apt("update", "install --no-install-recommends " + " ".join(packages))
-
-
-def quoted(text: str) -> str:
-    """A text as one word of a shell."""
-    return "'" + text.replace("'", "'\\''") + "'"
 
 
 @contextmanager

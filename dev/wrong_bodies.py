@@ -2,10 +2,8 @@
 
 One that was refused is tried again only where its text, a file that it changes, or a clause or a definition of its
 crate or of one below has changed. Verdicts are kept crate by crate, so a run that was stopped continues where it was.
-With --sample a number of all are drawn and tried anew, and nothing is kept.
 """
 import argparse
-import random
 import shutil
 import sys
 import tempfile
@@ -25,7 +23,7 @@ from dev.words import parser_of
 Named = Dict[str, Optional[Set[str]]]
 
 
-def try_crate(judge: Judge, name: str, room: Room, named: Optional[Set[str]], is_kept: bool) -> None:
+def try_crate(judge: Judge, name: str, room: Room, named: Optional[Set[str]]) -> None:
     """Tries wrong bodies of a crate, and keeps which were refused."""
     crate, sums, used = TOP / "crates" / name, Sums(room.path), processor_seconds()
     edits = edits_apart(room.path, name)
@@ -40,7 +38,7 @@ def try_crate(judge: Judge, name: str, room: Room, named: Optional[Set[str]], is
         judge.take(answer == REFUSED, f"{name}: {edit}: {answer}")
         if answer != REFUSED:
             del refused[edit]
-    if is_kept and is_proved:
+    if is_proved:
         write_refused(crate, refused)
     judge.close(f"{name}: {len(left)} refused, {processor_seconds() - used:.0f} s of a processor")
 
@@ -62,37 +60,22 @@ def edits_named(names: List[str], is_all: bool, parser: argparse.ArgumentParser)
     return named
 
 
-def drawn(count: int, seed: int) -> Named:
-    """A number of edits, drawn by a seed."""
-    pool = [(name, edit.stem) for name in crates_in(TOP) for edit in edits_apart(TOP, name)]
-    found = random.Random(seed).sample(pool, min(count, len(pool)))
-    return {name: {edit for crate, edit in found if crate == name} for name, _ in found}
-
-
 def main() -> int:
     """Tries what is asked for, lowest crate first; 0 where each wrong body is refused."""
     parser = parser_of(__doc__)
     parser.add_argument("names", nargs="*", metavar="NAME", help="a crate, or CRATE/EDIT; all crates if there is none")
     parser.add_argument("--all", action="store_true", help="try each of them, whatever has changed")
-    parser.add_argument("--sample", type=int, metavar="N", help="try N edits of all, drawn by a seed")
-    parser.add_argument("--seed", type=int, metavar="S", help="the seed; one is drawn if there is none")
     options = parser.parse_args()
     if shutil.which("rt") is None:
         print("not tried: the toolchain's command rt isn't on PATH")
         return UNTRIED
-    if options.sample is None:
-        named = edits_named(options.names, options.all, parser)
-    else:
-        seed = random.SystemRandom().randrange(1_000_000) if options.seed is None else options.seed
-        named = drawn(options.sample, seed)
-        print(f"drawn by --sample {options.sample} --seed {seed}: " + ", ".join(
-            f"{name}/{edit}" for name, edits in named.items() for edit in sorted(edits or ())), flush=True)
+    named = edits_named(options.names, options.all, parser)
     lowest_first = sorted(named, key=lambda name: len(below(name, crates_in(TOP))))
     judge = Judge()
     with tempfile.TemporaryDirectory(prefix="wrong-bodies-") as path:
         room = Room(TOP, Path(path))
         for name in lowest_first:
-            try_crate(judge, name, room, named[name], options.sample is None)
+            try_crate(judge, name, room, named[name])
     return judge.end()
 
 
@@ -101,5 +84,3 @@ if __name__ == "__main__":
         sys.exit(main())
     except Unfit as reason:
         raise stop(f"{reason}: pytest tests/sources/test_wrong_bodies.py names all that is wrong") from None
-    except KeyboardInterrupt:
-        sys.exit(130)

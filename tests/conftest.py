@@ -56,9 +56,9 @@ def naplps() -> str:
 def run(naplps: str) -> Run:
     """Runs naplps-pages with words; `program` is the one that it asks."""
     def runs(words: List[str], stdin: bytes = b"", program: Optional[str] = None, cwd: Optional[str] = None,
-             env: Optional[Dict[str, str]] = None) -> "subprocess.CompletedProcess[bytes]":
+             env: Optional[Dict[str, str]] = None, keeps: str = "") -> "subprocess.CompletedProcess[bytes]":
         where = dict(os.environ, NAPLPS=program or naplps, PYTHONDONTWRITEBYTECODE="1", **(env or {}))
-        return subprocess.run([COMMAND, *bare(words, cwd)], input=stdin, capture_output=True, cwd=cwd, env=where,
+        return subprocess.run([COMMAND, *bare(words, cwd, keeps)], input=stdin, capture_output=True, cwd=cwd, env=where,
                               timeout=900)
     return runs
 

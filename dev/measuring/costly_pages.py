@@ -28,12 +28,8 @@ class Chunk:
         return Chunk(self.code * count, self.entries * count, self.text * count, self.lines * count)
 
     def __add__(self, other: "Chunk") -> "Chunk":
-        return Chunk(
-            self.code + other.code,
-            self.entries + other.entries,
-            self.text + other.text,
-            self.lines + other.lines,
-        )
+        return Chunk(self.code + other.code, self.entries + other.entries, self.text + other.text,
+                     self.lines + other.lines)
 
 
 def line(text: str) -> int:
@@ -93,7 +89,7 @@ class Made:
 
 # Makes the page of a kind, of this length and for this budget; and a kind with its name.
 Maker = Callable[[int, int], Made]
-Kind = Tuple[str, Callable[[], Maker]]
+Kind = Tuple[str, Maker]
 
 
 def calling(setup: Chunk, units: Filling, length: int, budget: int) -> Made:
@@ -136,96 +132,15 @@ def family(setup: Chunk, units: Filling, run: Optional[int] = None) -> Maker:
     return make
 
 
-def plain_repeats() -> Maker:
-    """REPEAT of a plain character."""
-    shown = line("CHAR primary 41 pen=after colour=own-start text=0,0/normal/----")
-    return family(Chunk(b"A", 1, 2, shown), Units(b"", Chunk(REPEAT, 63, 63, 63 * shown), b""))
-
-
-def wide_repeats() -> Maker:
-    """REPEAT of a character whose line is long."""
-    shown = line("CHAR supplementary 41 pen=after colour=direct:65535,65535,65535 text=63,63/-8388608,-8388608/ruws")
-    looks = b"\x1b\x48\x1b\x59\x1b\x55\x1b\x57"
-    setup = SO + b"\x21\x5f" + WHITE + b"\x22\x7f\x7f" + CORNER + looks + SI + b"\x19A"
-    text = len(WHITE) + 3 + len(CORNER) + len(looks) + 2
-    return family(Chunk(setup, 1, text, shown), Units(b"", Chunk(REPEAT, 63, 63 * 2, 63 * shown), b""))
-
-
-def drcs_repeats() -> Maker:
-    """REPEAT of a DRCS character."""
-    shown = line("CHAR drcs 41 pen=after colour=own-start text=0,0/normal/----")
-    return family(Chunk(b"\x1b\x2b\x7b\x1dA", 1, 8, shown), Units(b"", Chunk(REPEAT, 63, 63 * 8, 63 * shown), b""))
-
-
-def points() -> Maker:
-    """Points of one word."""
-    shown = line("POINT 6291456,6291456 pel=0,0 colour=own-start")
-    return family(Chunk(SO + ONE_WORD + SI), Words(b"\x26", Chunk(b"\x5b", 1, 8, shown)), 2048)
-
-
-def rectangles() -> Maker:
-    """Rectangles of one word, whose lines are long."""
-    point = "6291456,6291456"
-    shown = line(
-        f"RECT-OUTLINED {point} {point} pel=-8388608,-8388608 colour=direct:65535,65535,65535 "
-        "texture=63/-8388608,-8388608"
-    )
-    setup = SO + b"\x21\x5f" + CORNER + WHITE + b"\x23\x7f" + CORNER + ONE_WORD + b"\x24\x5b" + SI
-    once = 10 + 9 + 10
-    return family(Chunk(setup, 0, once), Words(b"\x30", Chunk(b"\x40", 1, 16, shown)), 1024)
-
-
-class Words(Units):
+def words(opcode: bytes, word: Chunk) -> Units:
     """Fills a place with the words of one opcode."""
-
-    def __init__(self, opcode: bytes, word: Chunk) -> None:
-        super().__init__(SO + opcode, word, SI)
+    return Units(SO + opcode, word, SI)
 
 
-def polygons() -> Maker:
-    """Polygons of the most displacements."""
-    ink = "pel=0,0 colour=own-start texture=0/none"
-    return family(Chunk(SO + ONE_WORD + b"\x24\x5b" + SI), Shapes("6291456,6291456", ink))
-
-
-def circles() -> Maker:
-    """Circles, which are arcs of one displacement."""
-    point = "6291456,6291456"
-    shown = line(f"ARC-OUTLINED {point} {point} {point} pel=0,0 colour=own-start texture=0/none")
-    arc = Chunk(b"\x2c\x40", 1, 1 + 8 * 3, shown)
-    return family(Chunk(SO + ONE_WORD + b"\x24\x5b" + SI), Units(SO, arc, SI))
-
-
-def fields() -> Maker:
-    """FIELD without operands."""
-    return family(Chunk(), Units(SO, Chunk(b"\x38", 1, 1, line("FIELD whole pen=after")), SI))
-
-
-def waits() -> Maker:
-    """Waits."""
-    return family(Chunk(), Words(b"\x3d", Chunk(b"\x7f", 1, 2, line("WAIT 63"))))
-
-
-def maps() -> Maker:
-    """Colours of the map that change."""
-    white, black = line("MAP 16515072 49152,49152,49152"), line("MAP 16515072 0,0,0")
-    unit = Chunk(b"\x3c\x7f\x3c\x40", 2, 18, white + black)
-    return family(Chunk(SO + ONE_WORD + b"\x3e\x7f" + SI, 0, 5), Units(SO, unit, SI))
-
-
-def bells() -> Maker:
-    """Bells."""
-    return family(Chunk(), Units(b"", Chunk(b"\x07", 1, 1, line("BELL")), b""))
-
-
-def quiet(code: bytes) -> Callable[[], Maker]:
-    """A code that adds nothing."""
-    return lambda: family(Chunk(), Units(b"", Chunk(code), b""))
-
-
-def quiet_opcodes(code: bytes) -> Callable[[], Maker]:
-    """An opcode that adds nothing."""
-    return lambda: family(Chunk(), Units(SO, Chunk(code), SI))
+def repeats(before: bytes, text: int, each: int, shown: str) -> Maker:
+    """REPEAT of a character, and the bytes of canonical text before it and of each."""
+    size = line(shown)
+    return family(Chunk(before, 1, text, size), Units(b"", Chunk(REPEAT, 63, 63 * each, 63 * size), b""))
 
 
 def padded(page: bytes, length: int) -> bytes:
@@ -233,107 +148,85 @@ def padded(page: bytes, length: int) -> bytes:
     return page + b"\0" * (length - len(page))
 
 
-def descents() -> Maker:
+def descents(length: int, budget: int) -> Made:
     """A body that calls itself with a byte left to read, so that all calls stay open until the budget is charged."""
-
-    def make(length: int, budget: int) -> Made:
-        page = CALLS + b"\x1b\x40\x21\x21\x7e\x1b\x45\x21"
-        return Made(padded(page, length), budget, 0, refusal=f"refused 17 Budget at {len(page) - 1}")
-
-    return make
+    page = CALLS + b"\x1b\x40\x21\x21\x7e\x1b\x45\x21"
+    return Made(padded(page, length), budget, 0, refusal=f"refused 17 Budget at {len(page) - 1}")
 
 
-def crowded() -> Maker:
+def crowded(length: int, budget: int) -> Made:
     """A long run of points, a store that is full if the page is long enough, and then a descent."""
-
-    def make(length: int, budget: int) -> Made:
-        run = min(16384, length // 4)
-        page = SO + ONE_WORD + b"\x26" + b"\x5b" * run + SI + CALLS
-        tail = b"\x1b\x40\x21\x21\x7e\x1b\x45\x21"
-        page += b"\x1b\x40\x22" + b"\x7e" * (length - len(page) - 3 - len(tail)) + tail
-        return Made(page, budget, run, refusal=f"refused 17 Budget at {len(page) - 1}")
-
-    return make
+    run = min(16384, length // 4)
+    page = SO + ONE_WORD + b"\x26" + b"\x5b" * run + SI + CALLS
+    tail = b"\x1b\x40\x21\x21\x7e\x1b\x45\x21"
+    page += b"\x1b\x40\x22" + b"\x7e" * (length - len(page) - 3 - len(tail)) + tail
+    return Made(page, budget, run, refusal=f"refused 17 Budget at {len(page) - 1}")
 
 
-def endless() -> Maker:
+def endless(length: int, budget: int) -> Made:
     """A body that calls itself at its end."""
-
-    def make(length: int, budget: int) -> Made:
-        page = CALLS + b"\x1b\x40\x21\x7e\x21\x1b\x45\x21"
-        return Made(padded(page, length), budget, 0, refusal=f"refused 17 Budget at {len(page) - 1}")
-
-    return make
+    page = CALLS + b"\x1b\x40\x21\x7e\x21\x1b\x45\x21"
+    return Made(padded(page, length), budget, 0, refusal=f"refused 17 Budget at {len(page) - 1}")
 
 
-def store() -> Maker:
+def store(length: int, budget: int) -> Made:
     """One body that fills the store."""
-
-    def make(length: int, budget: int) -> Made:
-        return Made(b"\x1b\x40\x21" + b"\x7e" * (length - 5) + b"\x1b\x45", 0, 0)
-
-    return make
+    return Made(b"\x1b\x40\x21" + b"\x7e" * (length - 5) + b"\x1b\x45", 0, 0)
 
 
-def bindings() -> Maker:
+def bindings(length: int, budget: int) -> Made:
     """A name that is bound again and again."""
-
-    def make(length: int, budget: int) -> Made:
-        return Made(padded(b"\x1b\x40\x21" * (length // 3 - 1) + b"\x1b\x45", length), 0, 0)
-
-    return make
+    return Made(padded(b"\x1b\x40\x21" * (length // 3 - 1) + b"\x1b\x45", length), 0, 0)
 
 
-def presentations() -> Maker:
+def presentations(length: int, budget: int) -> Made:
     """Bodies of no bytes that are presented."""
-
-    def make(length: int, budget: int) -> Made:
-        count = min(length // 5, budget // 2)
-        return Made(padded(b"\x1b\x41\x21\x1b\x45" * count, length), 2 * count, 0)
-
-    return make
+    count = min(length // 5, budget // 2)
+    return Made(padded(b"\x1b\x41\x21\x1b\x45" * count, length), 2 * count, 0)
 
 
-def unbindings() -> Maker:
+def unbindings(length: int, budget: int) -> Made:
     """RESET that unbinds all names."""
-
-    def make(length: int, budget: int) -> Made:
-        count = (length - 2) // 3
-        shown = [line("RESET 0 16 pen=start"), line("RESET 0 16 pen=after")]
-        page = padded(SO + b"\x20\x40\x50" * count + SI, length)
-        return Made(page, 0, count, HEADER + 3 * count, shown[0] + (count - 1) * shown[1])
-
-    return make
+    count = (length - 2) // 3
+    shown = [line("RESET 0 16 pen=start"), line("RESET 0 16 pen=after")]
+    page = padded(SO + b"\x20\x40\x50" * count + SI, length)
+    return Made(page, 0, count, HEADER + 3 * count, shown[0] + (count - 1) * shown[1])
 
 
-def glyphs() -> Maker:
+def glyphs(length: int, budget: int) -> Made:
     """Glyphs without a stroke."""
-
-    def make(length: int, budget: int) -> Made:
-        count = (length - 2) // 3
-        page = padded(b"\x1b\x43\x21" * count + b"\x1b\x45", length)
-        lines = count * (line("GLYPH 21") + line("END"))
-        return Made(page, 0, 2 * count, HEADER + 5 * count, lines)
-
-    return make
+    count = (length - 2) // 3
+    page = padded(b"\x1b\x43\x21" * count + b"\x1b\x45", length)
+    return Made(page, 0, 2 * count, HEADER + 5 * count, count * (line("GLYPH 21") + line("END")))
 
 
-def one_byte_bodies() -> Maker:
-    """Calls of a body of one byte."""
+PLACE = "6291456,6291456"
+LOOKS = b"\x1b\x48\x1b\x59\x1b\x55\x1b\x57"
+BEFORE_WIDE = SO + b"\x21\x5f" + WHITE + b"\x22\x7f\x7f" + CORNER + LOOKS + SI + b"\x19A"
+BEFORE_RECTANGLES = SO + b"\x21\x5f" + CORNER + WHITE + b"\x23\x7f" + CORNER + ONE_WORD + b"\x24\x5b" + SI
+AT_PLACE = Chunk(SO + ONE_WORD + b"\x24\x5b" + SI)
 
-    def make(length: int, budget: int) -> Made:
-        calls = 300
-        page = CALLS + b"\x1b\x40\x21\x0d\x1b\x45" + b"\x1b\x40\x22" + b"\x21" * calls + b"\x1b\x45"
-        outer = min(budget // (2 * calls), length - len(page))
-        return Made(padded(page + b"\x22" * outer, length), 2 * calls * outer, 0)
-
-    return make
-
-
-def filling() -> Maker:
-    """NUL alone."""
-    return lambda length, budget: Made(b"\0" * length, 0, 0)
-
+plain_repeats = repeats(b"A", 2, 1, "CHAR primary 41 pen=after colour=own-start text=0,0/normal/----")
+# A character whose line is long.
+wide_repeats = repeats(
+    BEFORE_WIDE, len(WHITE) + 3 + len(CORNER) + len(LOOKS) + 2, 2,
+    "CHAR supplementary 41 pen=after colour=direct:65535,65535,65535 text=63,63/-8388608,-8388608/ruws")
+drcs_repeats = repeats(b"\x1b\x2b\x7b\x1dA", 8, 8, "CHAR drcs 41 pen=after colour=own-start text=0,0/normal/----")
+points = family(Chunk(SO + ONE_WORD + SI),
+                words(b"\x26", Chunk(b"\x5b", 1, 8, line(f"POINT {PLACE} pel=0,0 colour=own-start"))), 2048)
+# Rectangles whose lines are long.
+rectangles = family(Chunk(BEFORE_RECTANGLES, 0, 10 + 9 + 10), words(b"\x30", Chunk(b"\x40", 1, 16, line(
+    f"RECT-OUTLINED {PLACE} {PLACE} pel=-8388608,-8388608 colour=direct:65535,65535,65535 "
+    "texture=63/-8388608,-8388608"))), 1024)
+polygons = family(AT_PLACE, Shapes(PLACE, "pel=0,0 colour=own-start texture=0/none"))
+# Circles, which are arcs of one displacement.
+circles = family(AT_PLACE, Units(SO, Chunk(b"\x2c\x40", 1, 1 + 8 * 3, line(
+    f"ARC-OUTLINED {PLACE} {PLACE} {PLACE} pel=0,0 colour=own-start texture=0/none")), SI))
+fields = family(Chunk(), Units(SO, Chunk(b"\x38", 1, 1, line("FIELD whole pen=after")), SI))
+# Colours of the map that change.
+maps = family(Chunk(SO + ONE_WORD + b"\x3e\x7f" + SI, 0, 5), Units(SO, Chunk(
+    b"\x3c\x7f\x3c\x40", 2, 18, line("MAP 16515072 49152,49152,49152") + line("MAP 16515072 0,0,0")), SI))
+bells = family(Chunk(), Units(b"", Chunk(b"\x07", 1, 1, line("BELL")), b""))
 
 POLYGONS = f"polygons, up to {DISPLACEMENTS:,} words"
 
@@ -344,12 +237,12 @@ CALLED: List[Kind] = [
     (POLYGONS, polygons),
     ("circles of two bytes", circles),
     ("FIELD without operands", fields),
-    ("waits", waits),
+    ("waits", family(Chunk(), words(b"\x3d", Chunk(b"\x7f", 1, 2, line("WAIT 63"))))),
     ("maps", maps),
     ("bells", bells),
-    ("calls of no body", quiet(b"\x7e")),
-    ("SELECT COLOR, no entry", quiet_opcodes(b"\x3e")),
-    ("escapes, no entry", quiet(b"\x1b\x50")),
+    ("calls of no body", family(Chunk(), Units(b"", Chunk(b"\x7e"), b""))),
+    ("SELECT COLOR, no entry", family(Chunk(), Units(SO, Chunk(b"\x3e"), SI))),
+    ("escapes, no entry", family(Chunk(), Units(b"", Chunk(b"\x1b\x50"), b""))),
     ("a body calls itself, last", endless),
     ("a body calls itself, first", descents),
     ("the same, with a full store", crowded),
@@ -361,17 +254,4 @@ UNCALLED: List[Kind] = [
     ("empty presentations", presentations),
     ("RESET unbinds all names", unbindings),
     ("glyphs without a stroke", glyphs),
-]
-
-# Pages of codes that add nothing or little, of which only the instructions are counted.
-COUNTED: List[Kind] = [
-    ("APS", quiet(b"\x1c\x45\x45")),
-    ("SS2", quiet(b"\x19\x51")),
-    ("underline on, off", quiet(b"\x1b\x59\x1b\x5a")),
-    ("designations", quiet(b"\x1b\x2a\x7d")),
-    ("TEXT", quiet_opcodes(b"\x22\x40\x40")),
-    ("DOMAIN", quiet_opcodes(b"\x21\x48")),
-    ("RESET", quiet_opcodes(b"\x20\x43\x49")),
-    ("NUL", filling),
-    ("a body of one byte", one_byte_bodies),
 ]

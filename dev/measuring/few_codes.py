@@ -1,5 +1,5 @@
 """Pages of few codes: long runs, lines of letters, short pieces of each kind, and calls of macros."""
-from typing import Callable, Tuple
+from typing import Callable, Iterator, Tuple
 
 from dev.measuring.page_codes import (
     CALL, DEF_MACRO, END, LINE_REL, MACROS_IN_G3, POINT_REL, POINT_SET_ABS, RECT_FILLED, SET_ARC_OUTLINED, SET_COLOR,
@@ -8,6 +8,8 @@ from dev.measuring.page_codes import (
 
 FIRST_NAME, NAMES = 0x20, 96
 LETTERS = b"abcdefghijklmnopqrstuvwxyz      "
+# How many short pages there are, and the bytes of each.
+SHORT_PAGES, LENGTH = 20_000, 650
 
 
 class FewCodes(Operands):
@@ -76,3 +78,13 @@ class FewCodes(Operands):
         """A call, and as many bytes as it charges."""
         name = self.random.randrange(NAMES)
         return CALL + bytes([FIRST_NAME + name]) + self.bodies[name]
+
+
+def short_pages() -> Iterator[bytes]:
+    """Mixed pages of one length, each another one, with NUL after the last piece that fits."""
+    pages = FewCodes("requests")
+    for _ in range(SHORT_PAGES):
+        made, piece = b"", b""
+        while len(made) + len(piece) <= LENGTH:
+            made, piece = made + piece, pages.mixed()
+        yield made.ljust(LENGTH, b"\0")

@@ -11,15 +11,15 @@ VALGRIND = ("valgrind", "--tool=callgrind", "--callgrind-out-file=/dev/null")
 COUNT = re.compile(r"Collected : (\d+)")
 
 
-def counted(program: str, words: List[str], name: str, status: int = 0) -> int:
-    """The instructions of a command whose input is a file, and which has to end with a status."""
+def counted(program: str, words: List[str], name: str) -> int:
+    """The instructions of a command whose input is a file, and which has to succeed."""
     if shutil.which(VALGRIND[0]) is None:
         raise stop("valgrind isn't there")
     with open(name, "rb") as source:
         ran = subprocess.run([*VALGRIND, program, *words], stdin=source, stdout=subprocess.DEVNULL,
                              stderr=subprocess.PIPE, encoding="utf-8", errors="replace")
     found = COUNT.search(ran.stderr)
-    if ran.returncode != status or found is None:
+    if ran.returncode or found is None:
         raise stop(f"{program} {' '.join(words)}: status {ran.returncode}: {ran.stderr[-400:]}")
     return int(found[1])
 

@@ -7,7 +7,7 @@ import threading
 import time
 from typing import NamedTuple, Sequence
 
-# With 1 something lacks, as the sketch of a page in a report.
+# With 1 something lacks, as the picture of a page in a report.
 GOOD = (0, 1)
 # Between two looks at the temporary files, in seconds; and what the system puts after the name of one.
 LOOK, DELETED = 0.2, " (deleted)"

@@ -2,69 +2,58 @@
 import re
 from typing import Dict, Iterator, List, Tuple
 
-from naplps_pages.commands import (
-    FILES, FOLDERS, GROUPS, SHARED_WORDS, Argument, OneOf, Option, Part, command, in_group, options,
-)
+from naplps_pages.commands import FILES, FOLDERS, GROUPS, Argument, OneOf, Option, Part, command, in_group, options
 
 NAMES = tuple(name for group in GROUPS for name in in_group(group))
-HELP = Option("--help", "print help", default=False)
-
-
-def parts_of(name: str) -> List[Part]:
-    """What a command takes, without what only earlier versions took."""
-    some: List[Part] = []
-    for part in command(name).parts():
-        if isinstance(part, OneOf):
-            part = part._replace(options=tuple(each for each in part.options if not each.now))
-        if isinstance(part, Argument) or any(not each.now for each in options([part])):
-            some.append(part)
-    return some
+PARTS = {name: command(name).parts() for name in NAMES}
+HELP = Option("--help", "print help", default=False, short="-h")
+# Options that the manual describes once for all commands.
+SHARED_WORDS = ("--json", "--csv", "--print0", "--previous", "--budget", "--timeout", "--jobs")
 
 
 def of(name: str) -> List[Option]:
     """The options of a command."""
-    return [*options(parts_of(name)), HELP]
+    return [*options(PARTS[name]), HELP]
+
+
+def spelled(option: Option) -> List[str]:
+    """The words of an option, the short one first if there is one."""
+    return [option.short, option.word] if option.short else [option.word]
 
 
 def short(text: str) -> str:
-    """The first clause of a help, without marks of its own."""
-    clause = re.split(r"[;:(]", text)[0]
-    if len(clause) > 60:
-        clause = clause.split(", ")[0]
+    """The first clause of a help, without marks of its own, and up to a comma where it is long."""
+    clause = re.split(r"[;:(]|\. ", text)[0]
+    while len(clause) > 60 and ", " in clause:
+        clause = clause.rpartition(", ")[0]
     return re.sub(r"[`\[\]]", "", clause).strip()
-
-
-def _every() -> Dict[str, Option]:
-    """One option for each word that takes a value."""
-    return {each.word: each for name in NAMES for each in of(name) if each.title}
 
 
 def bash() -> str:
     """The completion for bash."""
-    every = _every()
-    unknown = [word for word, each in every.items() if not each.completes and not each.choices]
-    files = [word for word, each in every.items() if each.completes]
-    chosen = [(word, each.choices) for word, each in every.items() if each.choices]
-    lines = [f"        {word}) mapfile -t COMPREPLY < <(compgen -W '{' '.join(some)}' -- \"$word\") && return ;;"
-             for word, some in chosen]
-    words = [f"        {name}) words='{' '.join(each.word for each in of(name) if each.word.startswith('--'))}' ;;"
-             for name in NAMES]
-    return _BASH.format(names=" ".join(NAMES), unknown=" | ".join(unknown), files=" | ".join(files),
-                        chosen="\n".join(lines), words="\n".join(words))
+    every = {each.word: each for name in NAMES for each in of(name) if each.title and not each.choices}
+    values = {is_file: " | ".join(f"*' {word}'" for each in every.values() if bool(each.completes) == is_file
+                                  for word in spelled(each)) for is_file in (False, True)}
+    chosen = [f"        '{name} {each.word}') {_CHOSEN % ' '.join(each.choices)}" for name in NAMES for each in of(name)
+              if each.choices]
+    words = [f"        {name}) words='{' '.join(each.word for each in of(name))}' ;;" for name in NAMES]
+    return _BASH.format(names=" ".join(NAMES), unknown=values[False], files=values[True], chosen="\n".join(chosen),
+                        words="\n".join(words))
 
 
+_CHOSEN = """mapfile -t COMPREPLY < <(compgen -W '%s' -- "$word") && return ;;"""
 _BASH = """\
 # Completion of naplps-pages for bash. python3 -m dev.completions makes it of the commands.
 _naplps_pages() {{
     local word=${{COMP_WORDS[COMP_CWORD]}} before=${{COMP_WORDS[COMP_CWORD - 1]}} command='' words='' index
     local commands='{names}'
     for ((index = 1; index < COMP_CWORD; index++)); do
-        if [[ " $commands " = *" ${{COMP_WORDS[index]}} "* ]]; then
+        if [[ " $commands help " = *" ${{COMP_WORDS[index]}} "* ]]; then
             command=${{COMP_WORDS[index]}}
             break
         fi
     done
-    case $before in
+    case "$command $before" in
         # (what these are is for the user to say)
         {unknown}) return ;;
 {chosen}
@@ -73,20 +62,17 @@ _naplps_pages() {{
             mapfile -t COMPREPLY < <(compgen -f -- "$word")
             return
             ;;
-        help)
-            if [[ $command = help && $word != -* ]]; then
-                mapfile -t COMPREPLY < <(compgen -W "$commands options" -- "$word")
-                return
-            fi
-            ;;
     esac
     case $command in
-        '') words="$commands --help --version" ;;
+        '') words="$commands help --help --version" ;;
+        help) words=$commands ;;
 {words}
     esac
-    if [[ -z $command || $word = -* ]]; then
+    if [[ -z $command || $command = help || $word = -* ]]; then
         mapfile -t COMPREPLY < <(compgen -W "$words" -- "$word")
-    else
+    fi
+    # (a file may stand in place of a command)
+    if [[ $command != help && $word != -* && ${{#COMPREPLY[@]}} = 0 ]]; then
         compopt -o filenames
         mapfile -t COMPREPLY < <(compgen -f -- "$word")
     fi
@@ -102,20 +88,19 @@ def zsh() -> str:
     between = " \\\n" + " " * 24
     cases = "\n".join(f"                {name})\n                    _arguments {between.join(_zsh_words(name))}\n"
                       "                    ;;" for name in NAMES)
-    return _ZSH.format(named=named, cases=cases)
+    return _ZSH.format(named=named, cases=cases, names=" ".join(NAMES))
 
 
 def _zsh_words(name: str) -> Iterator[str]:
-    for part in parts_of(name):
-        if isinstance(part, Argument):
-            continue
-        some = part.options if isinstance(part, OneOf) else (part,)
+    for part in PARTS[name]:
+        some = () if isinstance(part, Argument) else part.options if isinstance(part, OneOf) else (part,)
+        excluded = " ".join(word for each in some for word in spelled(each))
         for each in some:
-            others = " ".join(other.word for other in some if other != each)
-            front = f"({others})" if others else "*" if each.is_repeated else ""
+            front = "*" if each.is_repeated else f"({excluded})" if " " in excluded else ""
+            words = f"'{{{','.join(spelled(each))}}}'" if each.short else each.word
             value = f":{each.title.lower()}:{_zsh_value(each)}" if each.title else ""
-            yield f"'{front}{each.word}[{_quoted(short(each.help))}]{value}'"
-    yield _zsh_argument([part for part in parts_of(name) if isinstance(part, Argument)])
+            yield f"'{front}{words}[{_quoted(short(each.help))}]{value}'"
+    yield _zsh_argument([part for part in PARTS[name] if isinstance(part, Argument)])
 
 
 def _zsh_value(option: Option) -> str:
@@ -125,8 +110,6 @@ def _zsh_value(option: Option) -> str:
 
 
 def _zsh_argument(some: List[Argument]) -> str:
-    if some[0].to == "topic":
-        return f"'1:command:({' '.join(NAMES)} options)'"
     front = "1" if some[0].number in (None, 1) else "*"
     return f"'{front}:{' or '.join(each.title.lower() for each in some)}:_files'"
 
@@ -152,9 +135,11 @@ _naplps_pages() {{
         '1: :->command' \\
         '*:: :->words'
     case $state in
-        command) _describe -t commands command commands ;;
+        # (a file may stand in place of a command)
+        command) _describe -t commands command commands || _files ;;
         words)
             case $line[1] in
+                help) _arguments '1:command:({names})' ;;
 {cases}
             esac
             ;;
@@ -167,8 +152,7 @@ _naplps_pages "$@"
 
 def fish() -> str:
     """The completion for fish."""
-    lines = ["# Completion of naplps-pages for fish. python3 -m dev.completions makes it of the commands.",
-             "complete -c naplps-pages -n __fish_use_subcommand -f"]
+    lines = ["# Completion of naplps-pages for fish. python3 -m dev.completions makes it of the commands."]
     lines += [f"complete -c naplps-pages -n __fish_use_subcommand -a {name} -d '{_first(short(command(name).help))}'"
               for name in NAMES]
     found: Dict[Tuple[str, str, str], List[str]] = {}
@@ -178,7 +162,7 @@ def fish() -> str:
     for (word, value, told), names in found.items():
         lines.append(f"complete -c naplps-pages -n '__fish_seen_subcommand_from {' '.join(names)}' {word}{value} "
                      f"-d '{told}'")
-    lines += [f"complete -c naplps-pages -n '__fish_seen_subcommand_from help' -f -a '{' '.join(NAMES)} options'",
+    lines += [f"complete -c naplps-pages -n '__fish_seen_subcommand_from help' -f -a '{' '.join(NAMES)}'",
               "complete -c naplps-pages -s h -l help -d 'Print help'",
               "complete -c naplps-pages -n __fish_use_subcommand -s V -l version -d 'Print the version'"]
     return "\n".join(lines) + "\n"
@@ -189,7 +173,7 @@ def _first(text: str) -> str:
 
 
 def _fish_word(option: Option) -> str:
-    return f"-l {option.word[2:]}" if option.word.startswith("--") else f"-s {option.word[1:]}"
+    return (f"-s {option.short[1:]} " if option.short else "") + f"-l {option.word[2:]}"
 
 
 def _fish_value(option: Option) -> str:
@@ -203,14 +187,13 @@ def synopsis() -> str:
     lines: List[str] = []
     for name in NAMES:
         lines += [".Nm", f".Cm {name}"]
-        parts = parts_of(name)
-        lines += [_mdoc(part, some) for part in parts for some in [_listed(part)] if some]
-        lines += [_mdoc_argument(part) for part in parts if isinstance(part, Argument)]
-    return "\n".join(lines) + "\n"
+        lines += [_mdoc(part, some) for part in PARTS[name] for some in [_listed(part)] if some]
+        lines += [_mdoc_argument(part) for part in PARTS[name] if isinstance(part, Argument)]
+    return "\n".join([*lines, ".Nm", ".Ar file ...", ".Nm", ".Cm help", ".Op Ar command"]) + "\n"
 
 
 def _listed(part: Part) -> List[Option]:
-    """The options of a part but for those of several commands, which have one place in the manual, as in the help."""
+    """The options of a part but for those of several commands, which have one place in the manual."""
     return [each for each in options([part]) if each.word not in SHARED_WORDS]
 
 
@@ -221,7 +204,7 @@ def _mdoc(part: Part, some: List[Option]) -> str:
 
 
 def _mdoc_option(option: Option) -> str:
-    word = f"Fl Fl {option.word[2:]}" if option.word.startswith("--") else f"Fl {option.word[1:]}"
+    word = f"Fl {option.short[1:]}" if option.short else f"Fl Fl {option.word[2:]}"
     return f"{word} Ar {_mdoc_title(option.title)}" if option.title else word
 
 
@@ -231,7 +214,4 @@ def _mdoc_title(title: str) -> str:
 
 def _mdoc_argument(argument: Argument) -> str:
     title = argument.shown_as or argument.title.lower()
-    number = argument.number
-    if number == "?":
-        return f".Op Ar {title}"
-    return f".Ar {title}" + (f" {title}" if number == 2 else " ..." if number == "+" else "")
+    return f".Ar {title}" + (f" {title}" if argument.number == 2 else " ..." if argument.number == "+" else "")

@@ -9,7 +9,7 @@ import shutil
 from pathlib import Path
 from typing import Dict
 
-from dev.layout import TOP, File, write_files
+from dev.layout import TOP, File
 from dev.packaging.for_pages import page
 from dev.packaging.kept import ARCHIVE, CODE, NotProved, ask, file_sum, toolchain
 from dev.packaging.made import made_of, read_made
@@ -57,16 +57,6 @@ def make_page() -> Dict[str, File]:
         raise NotMade(f"there is no {module}, or {MADE} doesn't name it")
     shown = page(module.read_bytes()).encode("utf-8")
     return {PAGE: File(shown, 0o644), MADE.name: made_of({**made, PAGE: sum_of(shown)})}
-
-
-def keep() -> None:
-    """Puts all of it in dist/browser; raises NotMade."""
-    write_files(FOLDER, make())
-
-
-def keep_page() -> None:
-    """Puts the page of the kept module in dist/browser; raises NotMade."""
-    write_files(FOLDER, make_page())
 
 
 def faults_of(archive: Path) -> Dict[str, str]:

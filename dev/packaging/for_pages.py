@@ -100,7 +100,7 @@ def page(module: bytes) -> str:
 
 
 def _refusals() -> str:
-    """The texts on refusals, those that `explain` shows, by number, name and code."""
+    """The texts on refusals, those that `check --explain` shows, by number, name and code."""
     return _told({each.title: {"means": each.means, "causes": each.causes, "do": each.do}
                   for each in refusals.every() if not each.case})
 

@@ -8,7 +8,7 @@ import sys
 from pathlib import Path
 from typing import Dict, List, Optional, Tuple
 
-from dev.crates import below, crates_in, crates_of_product
+from dev.crates import below, crates_in
 from dev.layout import TOP
 from dev.packaging.keeping import keeping
 from dev.packaging.made import read_made
@@ -33,7 +33,8 @@ class NotProved(Exception):
 
 def kept_crates() -> List[str]:
     """The crates of the kept program and of the kept library, lowest first."""
-    return crates_of_product(TOP, ("nap_cli", "nap_c"))
+    crates = crates_in(TOP)
+    return list(dict.fromkeys(name for product in ("nap_cli", "nap_c") for name in below(product, crates)))
 
 
 def ask(*words: object, folder: Path = TOP, errors: Optional[int] = None) -> str:

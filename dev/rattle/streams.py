@@ -1,5 +1,4 @@
 """Two streams for each wrong body of the gate: one that its program answers rightly, and one wrongly."""
-import re
 import subprocess
 from pathlib import Path
 from typing import Iterator, List, NamedTuple, Tuple
@@ -10,7 +9,6 @@ from dev.vectors.notation import bytes_of
 
 FILE = "dev/rattle/streams.tsv"
 NOTHING = "-"
-PART = re.compile(r'"[^"]*"|[^"]+')
 
 
 class Pair(NamedTuple):
@@ -41,8 +39,7 @@ def sum_of_pair(root: Path, pair: Pair) -> str:
 
 def stream_of(text: str) -> bytes:
     """The bytes that a text spells: those between quotes as they are, and others as vectors spell them."""
-    parts = PART.findall(text) if text != NOTHING else []
-    return b"".join(part[1:-1].encode() if part.startswith('"') else bytes_of(part) for part in parts)
+    return b"" if text == NOTHING else bytes_of(text)
 
 
 def answer_of(program: Path, command: str, text: str) -> Tuple[int, bytes, bytes]:

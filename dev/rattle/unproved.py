@@ -11,8 +11,9 @@ import shlex
 import shutil
 import subprocess
 from pathlib import Path
-from typing import Callable, List, Sequence
+from typing import Callable, List
 
+from dev.packaging.keeping import link_all, link_toolchain
 from dev.packaging.kept import NotProved, ask, toolchain
 
 NOT_PROVED = "not proved"
@@ -47,29 +48,16 @@ def copy_sources(top: Path, to: Path) -> None:
     words.write_text(marked(words.read_text("utf-8")), "utf-8")
 
 
-def link_all(folder: Path, to: Path, others: Sequence[str]) -> None:
-    """Makes a folder with links to all that a folder has, but for some names."""
-    to.mkdir()
-    for path in folder.iterdir():
-        if path.name not in others:
-            (to / path.name).symlink_to(path)
-
-
 def recording(kit: Path, to: Path, module: Path) -> Path:
     """Makes a toolchain's folder whose clang keeps the program's module and stops; the path of its rt."""
-    link_all(kit, to, ("bin", "toolchain"))
-    link_all(kit / "bin", to / "bin", ("rt", "rtlib.py"))
+    link_all(kit, to, "bin", "toolchain")
+    link_all(kit / "bin", to / "bin", "rt", "rtlib.py")
     # (rt finds its toolchain by where it is itself)
     for name in ("rt", "rtlib.py"):
         shutil.copy(kit / "bin" / name, to / "bin")
-    link_all(kit / "toolchain", to / "toolchain", ("bin",))
-    link_all(kit / "toolchain" / "bin", to / "toolchain" / "bin", ("clang",))
-    clang = to / "toolchain" / "bin" / "clang"
-    clang.write_text(
-        f"#!/bin/sh\ncase \" $* \" in\n    *' {OF_PROGRAM} '*) cp -- *.bc {shlex.quote(str(module))}; exit 1 ;;\nesac\n"
-        f'exec {shlex.quote(str(kit / "toolchain" / "bin" / "clang"))} "$@"\n', "utf-8",
-    )
-    clang.chmod(0o755)
+    copied = f"cp -- *.bc {shlex.quote(str(module))}; exit 1"
+    link_toolchain(kit / "toolchain", to / "toolchain",
+                   f"case \" $* \" in\n    *' {OF_PROGRAM} '*) {copied} ;;\nesac\n")
     return to / "bin" / "rt"
 
 

@@ -17,14 +17,9 @@ def is_spelled(text: str) -> bool:
 
 
 WORDS: Dict[str, Callable[[str], bool]] = {
-    "plain": lambda text: text == "",
-    "not": lambda text: text == "plain",
-    "budget": str.isdigit,
-    "charged": str.isdigit,
-    "turns": str.isdigit,
-    "fed": str.isdigit,
-    "places": lambda text: counted(numbers_of(text)) == text,
-    "form1": is_spelled,
+    "plain": lambda text: text == "", "not": lambda text: text == "plain",
+    "budget": str.isdigit, "charged": str.isdigit, "turns": str.isdigit, "fed": str.isdigit,
+    "places": lambda text: counted(numbers_of(text)) == text, "form1": is_spelled,
 }
 
 

@@ -1,17 +1,24 @@
-"""The notation of vectors/: bytes and lists as a row spells them, in both directions."""
+"""The notation of vectors and of rows: bytes and lists as a row spells them, in both directions."""
 import re
 from typing import List
 
 LONGEST_PERIOD = 24
+QUOTED = re.compile(r'"([^"]*)"(\*)?')
 
 
 def bytes_of(text: str) -> bytes:
-    """The bytes that a text spells: `40*7` is seven times 40, `(26 52)*3` three times 26 52."""
+    """The bytes that a text spells: `40*7` is seven times 40, `(26 52)*3` three times 26 52, and `"A"` is that text."""
+    text = QUOTED.sub(_digits, text).upper()
     while "*" in text:
         text, count = re.subn(r"(?:([0-9A-F]{2})|\(([0-9A-F ]*)\))\*([0-9]+)", _repeated, text)
         if not count:
             raise ValueError(f"a count stands behind nothing: {text[:60]}")
     return bytes.fromhex(text)
+
+
+def _digits(match: "re.Match[str]") -> str:
+    digits = match[1].encode().hex(" ")
+    return f"({digits})*" if match[2] else f"{digits} "
 
 
 def _repeated(match: "re.Match[str]") -> str:

@@ -54,17 +54,9 @@ def _first(stream: Stream) -> Answer:
     refusal = None if means.refusal is None else _reading.refusal_line(means.refusal)
     accepted = refusal is None
     return Answer(
-        refusal,
-        prefix.refusal is not None,
-        means.fed,
-        means.turns,
-        means.charged,
-        _reading.is_plain(data),
-        _places(data, budget, len(means.entries)),
-        _reading.canon(means.entries) if accepted else None,
-        _reading.canon_form1(means.entries) if accepted else None,
-        [_reading.line_of(entry) for entry in means.entries],
-    )
+        refusal, prefix.refusal is not None, means.fed, means.turns, means.charged, _reading.is_plain(data),
+        _places(data, budget, len(means.entries)), _reading.canon(means.entries) if accepted else None,
+        _reading.canon_form1(means.entries) if accepted else None, [_reading.line_of(entry) for entry in means.entries])
 
 
 def _places(data: bytes, budget: int, entries: int) -> Optional[List[int]]:
@@ -110,17 +102,9 @@ def _second(line: str) -> Answer:
     refusal, early, fed, turns, charged, plain, places, text, form1, lines = line.split("\t")
     accepted = refusal == "accepted"
     return Answer(
-        None if accepted else refusal,
-        early == "true",
-        int(fed),
-        int(turns),
-        int(charged),
-        plain == "true",
-        None if places == "-" else [int(place) for place in places.split()],
-        bytes.fromhex(text) if accepted else None,
-        bytes.fromhex(form1) if accepted else None,
-        lines.split(";") if lines else [],
-    )
+        None if accepted else refusal, early == "true", int(fed), int(turns), int(charged), plain == "true",
+        None if places == "-" else [int(place) for place in places.split()], bytes.fromhex(text) if accepted else None,
+        bytes.fromhex(form1) if accepted else None, lines.split(";") if lines else [])
 
 
 class Told(NamedTuple):

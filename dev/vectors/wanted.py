@@ -16,14 +16,9 @@ def wanted_of(vector: Vector) -> Dict[str, Tuple[str, bytes]]:
     text = bytes_of(vector.ending) if accepted else b""
     form1 = bytes_of(vector.more["form1"]) if "form1" in vector.more else text
     listing = "".join(f"{entry}\n" for entry in lines).encode()
-    return {
-        "check": (line, b""),
-        "list": (line, listing if accepted else b""),
-        "canon": (line, text),
-        "places": (line, listing),
-        "form1": (line, form1),
-        "plain": ("plain" if "plain" in vector.more else "not plain", b""),
-    }
+    plain = "plain" if "plain" in vector.more else "not plain"
+    return {"check": (line, b""), "list": (line, listing if accepted else b""), "canon": (line, text),
+            "places": (line, listing), "form1": (line, form1), "plain": (plain, b"")}
 
 
 def parted(text: bytes) -> Tuple[List[int], bytes]:

@@ -59,6 +59,11 @@ class Unanswered(NamedTuple):
     # Whether it would have been too much, for the program's memory or for the tool's.
     too_much: bool = False
 
+    @property
+    def line(self) -> str:
+        """The reason, which stands in place of a line."""
+        return self.reason
+
 
 class WrongLine(NamedTuple):
     """Lines make no page: the first one that is wrong, from 1, and the reason as the program tells it.

@@ -26,7 +26,7 @@ def main(words: List[str], tool: str) -> int:
 
 
 def _read(words: List[str]) -> Optional[Given]:
-    """What the words say; None where they ask for the version alone, which is printed."""
+    """What the words say; None where they ask for what is printed then: the version, or a help."""
     if words and words[0] in ("-V", "--version"):
         from naplps.version import VERSION
         sys.stdout.write(f"{TOOL} {VERSION}\n")
@@ -37,14 +37,11 @@ def _read(words: List[str]) -> Optional[Given]:
 
 def _run(given: Given, tool: str) -> int:
     """Runs a command; the status. It is short for the reason that pages/naplps-pages gives."""
-    for line in given.parser.notices:
-        tell(line)
     try:
-        from .commands import command
-        return command(given.command).run(given, tool)
+        return int(given.run(given, tool))
     except BrokenPipeError:
         raise
     except Exception as error:  # pylint: disable=broad-except
-        from .unexpected import failure_message
+        from .unexpected import failure_message, status_of
         tell(failure_message(error))
-        return FAILED
+        return status_of(error)

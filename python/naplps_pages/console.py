@@ -1,14 +1,16 @@
 """Standard output and standard error, and the statuses with which the tool ends."""
 import sys
-from typing import IO, NamedTuple
+from typing import IO, Callable, NamedTuple
 
 from naplps.names import printable, shown
 
 from . import TOOL
 
+# (done, and what was asked is so; done, and it isn't; wrong words; something couldn't be read, asked or written)
 ACCEPTED, REFUSED, WRONG_WORDS, FAILED = range(4)
+TOOL_FAILED = 70
 # Those of a command on a collection, beside FAILED.
-COMPLETE, SOME_LACK = 0, 1
+COMPLETE, CHANGED = ACCEPTED, REFUSED
 
 
 class NotWritten(Exception):
@@ -49,6 +51,8 @@ class Output(NamedTuple):
     """Standard output. A pipe that nobody reads ends the tool; other faults are reported."""
 
     file: IO[bytes]
+    # (what is done before bytes are printed)
+    before: Callable[[], None] = lambda: None
 
     def text(self, text: str) -> None:
         """Prints text in UTF-8."""
@@ -60,6 +64,7 @@ class Output(NamedTuple):
 
     def bytes(self, data: bytes) -> None:
         """Prints bytes."""
+        self.before()
         try:
             self.file.write(data)
         except BrokenPipeError:

@@ -4,7 +4,7 @@ Where a message has fields, `messages.NAME.format(field=...)` gives each of them
 """
 # Several commands.
 STOPPED = "stopped; what was found is kept, and the same command goes on"
-GOES_ON_AFTER = "{path}: {reason}; what was found is kept, and the same command goes on"
+GOES_ON_AFTER = "{reason}; what was found is kept, and the same command goes on"
 NO_SKETCH = "no sketch: {reason}"
 IS_THERE = "is there already, and isn't written over"
 OTHER_BYTES_THERE = "is there already with other bytes, and isn't written over"
@@ -12,18 +12,22 @@ IS_A_LINK = "is a link, and isn't followed"
 TAKEN_NAME = "this name is taken: {path} is made in its place"
 NAME_NOT_HELD = "this name is too long: {path} is made in its place"
 NO_FOLDER = "there is no such folder"
-IS_FOLDER = "it is a folder: name the files in it, or let `naplps-pages scan FOLDER --into STORE` take them"
+IS_FOLDER = "it is a folder: `check`, `scan` and `box` take one; here, name the files in it"
 IS_DEVICE = "it is a device"
 IS_SOCKET = "it is a socket"
 LONG_PIPE = "it is a pipe of more than {most} bytes"
 LATE_PIPE = "it is a pipe that didn't end in {seconds:g} s"
 # Words of the command line.
 EMPTY_NAME = "the name is empty"
+SEVERAL_PAGES = "several pages need -o FOLDER"
+NO_STANDARD_OUTPUT = "-o names a folder here, and - stands for standard output"
+ON_TERMINAL = "{what} isn't written to a terminal: -o FILE names a file for it"
 NUMBER_OUTSIDE = "a number from {least} to {most}, not {text!r}"
 # Stores, and what is wrong with one.
-NOT_A_STORE = ("isn't a store: `naplps-pages scan FOLDER --into STORE` makes one, and `naplps-pages check` says what "
+NOT_A_STORE = ("isn't a store: `naplps-pages scan FOLDER -o STORE` makes one, and `naplps-pages check` says what "
                "this file is")
 NOT_A_FILE = "isn't a file"
+FOLDER_NO_STORE = "is a folder: `naplps-pages scan FOLDER -o STORE` makes a store of its files"
 OTHER_DATABASE = "is a database of something else, and no store of naplps-pages"
 OTHER_SCHEMA = "is a store of schema {schema}, and this tool knows schemas {earlier} and {known}"
 OTHER_HASHES = "is a store of hashes by {hash}, and this tool knows {known}"
@@ -102,48 +106,47 @@ PAGE_OF_BOX_UNREADABLE = "what it has of the page {sha256} can't be read"
 NOT_KEPT = "isn't made: nothing is kept of its page"
 CHANGED_IN_BOX = "isn't as the box made it, and isn't written over: move it away, and the same command makes it anew"
 NO_FILE_THERE = "is there already, and is no file"
-# carve
+# fix: pages in files of any kind
 CHANGED = "it changed while it was read"
 BEGINNINGS_SKIPPED = "{number} beginnings in it weren't asked about: there are too many that no page follows"
 FOREIGN_STATE = "is there already, and isn't of this tool"
 STATE_OF_OTHER = "is another user's: move it away, and the search begins at the first byte"
 CARVES_ON = "the search continues at byte {at}, where an earlier run stopped; pages found before: {number}"
-# cures
-LONG_FOR_TREATMENTS = "the page is longer than 16 MiB: no treatment is tried"
-# describe
+# fix: repairs
+LONG_FOR_TREATMENTS = "the page is longer than 16 MiB: no repair is tried"
+# show --format words
 LONG_FOR_DESCRIPTION = "it has more than {most} entries, too many for a description"
 LONG_BEFORE_REFUSAL = "too much comes before the refusal"
-DESCRIBED_BEFORE_REFUSAL = "{path}: {answer}; the description is of what comes before"
-# diff and source
-NO_SOURCE_OF_REFUSED = "{answer}; only an accepted page has a source"
+DESCRIBED_BEFORE_REFUSAL = "; the description is of what comes before"
+# diff, and make --from
+NO_SOURCE_OF_REFUSED = "; only an accepted page has a source"
 LONG_FOR_SOURCE = "it has more than {most} entries, too many for a source"
 LONG_TO_COMPARE = "its source has more than {most} lines, too many to be compared"
 # equal
-PICTURES_OF_ONE_STORE = "pictures are compared in one store: merge makes one of several"
-COPIES_OF_ONE_STORE = "treated copies are joined in one store: merge makes one of several"
-UNTRIED = "{path}: of {pages} no treatments are known: a scan with --cures tries them"
-UNKNOWN_COPIES = "{path}: for treated copies of {pages} it isn't known what they draw: a scan with --cures finds out"
+COPIES_OF_ONE_STORE = "treated copies are joined in one store: `scan --merge` makes one of several"
+UNTRIED = "{path}: of {pages} no repairs are known: a scan into a new store tries them"
+UNKNOWN_COPIES = ("{path}: for treated copies of {pages} it isn't known what they draw: a scan into a new store "
+                  "finds out")
 OTHER_COPY_OF_IT = "the treatments make another copy of it than when it was scanned"
 SAME_HASH = "its canonical bytes differ from those of {other}, though the hash is the same"
 TEMPORARY_FILES = "temporary files of {path} and others"
 LONG_TO_PAINT = "it has no picture: more than {most} entries"
 PAINTS_TOO_MUCH = "it has no picture: it paints too much"
 # files
-NO_REFUSAL = "the number of a refusal, not {text!r}: {known}"
 NO_REASON = "a refusal or a code, not {text!r}: {known}; the codes of LeftOut are {codes}"
 # find
 NO_TEXTS_OF = "{pages} no text kept, and can't be found: the next scan keeps it"
-NO_TEXTS = "has no texts: a scan into a new store keeps them, without --no-words"
+NO_TEXTS = "has no texts: a scan into a new store keeps them, without --skip words"
 NO_WORD = "there is no word to look for: a word has letters or digits"
 MANY_WORDS = "more than {most} words are too many to look for"
 LONG_TO_FIND = "more than {most} characters are too many to look for"
 # list
 NO_LIMIT_BY_ITSELF = "{reason}; by itself, as `naplps list < PAGE`, it has no such limit"
-# look
+# show
 SKETCHED_BEFORE_REFUSAL = "; the sketch shows what comes before"
 GUESSED_BEHIND = ", and hatched a guess of what stands behind"
 NOT_GUESSED_BEHIND = "; what stands behind can't be read on"
-PICTURE_BEFORE_REFUSAL = "{path}: {answer}; the picture shows what comes before"
+PICTURE_BEFORE_REFUSAL = "; the picture shows what comes before"
 LONG_FOR_PICTURE = "too many entries for a picture"
 PICTURE_ENDS = "the picture ends before entry {entry}: what comes before paints as much as a picture may"
 FRAMES_END = "the picture has the first {frames} frames; what comes then isn't in it"
@@ -209,10 +212,10 @@ A_LOOK = "a size (small, medium, normal, tall, double or x,y), SIZE/FLAGS or W,W
 TWO_WORDS = "the two words of TEXT, w,w"
 FOUR_FLAGS = "four flags, r u w s for reverse, underline, wrap and scroll, each - where it is off"
 ON_OFF_DELAY = "three words on,off,delay"
-# merge, and other commands on several stores
+# scan --merge, and other commands on several stores
 PROCESS_AT_WORK = "another process is at work on it: {reason}"
 LEFT_OF_STORE = "isn't made: what is left of another store stands there, as {ending}"
-UNFINISHED = "isn't made; with --unfinished it is, of what is there"
+UNFINISHED = "isn't made; with --force it is, of what is there"
 TWO_ANSWERS = "isn't made: {pages} with two answers under one budget and version"
 ANSWERS_DIFFER = "{one}; {other}, of the same bytes"
 SAME_FILES = "may hold the same files as {other}, of {root}"
@@ -220,18 +223,16 @@ NOTHING_SCANNED = "nothing was scanned into it"
 SCAN_GOES_ON = "isn't finished: its scan is at work"
 SCAN_STOPPED = "isn't finished: its scan was stopped, and the same command goes on"
 ROOT_UNREAD = "isn't finished: its scan couldn't read {root}: {reason}"
-# near
-LONG_TO_BE_NEAR = "it has more than {most} entries, too many to be compared"
-NOT_COMPARED = "{path}: {answer}, and no treatment makes it readable; it isn't compared"
+# equal --nearly
 NOT_ALL_BEGINNINGS = "too many entries: not every page was compared with beginnings of others"
-# play
+# show --format html
 UNKNOWN_PLACES = "a page above 16 MiB isn't played, since the places of its entries aren't known"
 LONG_TO_PLAY = "not played: it has more than {most} entries, or their lines are too long"
-PLAYED_BEFORE_REFUSAL = "{path}: {answer}; the player shows what comes before"
-# report and serve
+PLAYED_BEFORE_REFUSAL = "; the player shows what comes before"
+# report
 NO_REPORT_THERE = "is there already, and is no report that may be replaced"
-MANY_SKETCHES = "{number} sketches are too many for one file; `naplps-pages serve` shows them"
-MANY_FILES = "{number} files are too many for one file; `naplps-pages serve` shows them"
+MANY_SKETCHES = "{number} sketches are too many for one file; `naplps-pages report STORE --serve` shows them"
+MANY_FILES = "{number} files are too many for one file; `naplps-pages report STORE --serve` shows them"
 SHORT_HASH = "a page's hash has {digits} digits or more"
 NO_PAGE_OF_HASH = "there is no page of this hash"
 NO_SUCH_FILE = "there is no such file"
@@ -262,7 +263,7 @@ NO_WORKERS = "workers can't be started: {reason}"
 WORKER_FAILED = "the worker that looked at it failed: {reason}"
 WORKER_HUNG = "the worker that looked at it hung"
 WORKER_ENDED = "the worker that looked at it ended {how}"
-# scan --on: workers of Dask
+# scan --dask: workers of Dask
 NO_DISTRIBUTED = "Dask's distributed isn't there for {python} (Debian: apt-get install python3-distributed)"
 NO_SCHEDULER_FILE = "{path}: it is no file of a scheduler"
 NO_SCHEDULER = "{address}: no scheduler answers: {reason}"
@@ -277,12 +278,12 @@ GETS_NOTHING = "it gets nothing"
 GIVEN_TO_OTHERS = "what it has is given to others"
 UNREAD_BY = "{worker}: some files can't be read there"
 UNREAD_BUT_ASKED = "{worker}: some files can't be read there; another worker is asked"
-# split
+# fix: captures
 LONG_CAPTURE = "the capture is longer than 16 MiB"
 MANY_PARTS = "it would be cut into {pages} pages, and {most} are the most"
 NO_BORDER = ("no page is cut: there is no border, which is NSR, CAN, 1A or an announcer with bytes that draw on both "
              "sides of it")
 NO_PAGE_AMONG_PARTS = "nothing is written: of {parts} parts none is accepted as a page"
-# text
+# show --format text
 LONG_FOR_TEXT = "too much for its text to be asked"
-TEXT_BEFORE_REFUSAL = "{path}: {answer}; the text is what comes before"
+TEXT_BEFORE_REFUSAL = "; the text is what comes before"

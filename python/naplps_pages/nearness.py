@@ -123,46 +123,6 @@ class Beginning(NamedTuple):
     last_fits: bool
 
 
-@dataclass
-class NearPages:
-    """Collects lists, and finds those that are almost equal."""
-
-    pages: Dict[bytes, ListedPage] = field(default_factory=dict)
-    keys: Dict[bytes, NearKeys] = field(default_factory=dict)
-    entries: int = 0
-
-    def add(self, name: PageName, listed: bytes) -> None:
-        """Takes a page with its list, as lines with their ends."""
-        whole = _digest(listed)
-        known = self.pages.get(whole)
-        if known is not None:
-            known.names.append(name)
-            return
-        keys = keys_of(listed)
-        if self.entries > MOST_ENTRIES:
-            keys = keys._replace(prefixes=b"")
-        self.entries += len(keys.prefixes) // PREFIX
-        self.pages[whole] = ListedPage([name], keys.said, numbers_of(keys.prefixes))
-        self.keys[whole] = keys._replace(prefixes=b"", said="")
-
-    @property
-    def is_whole(self) -> bool:
-        """Whether all pages were compared as beginnings too."""
-        return self.entries <= MOST_ENTRIES
-
-    def differences(self) -> Iterator[Difference]:
-        """Pages that differ in words, in colours or in places alone, each group once for what it differs in."""
-        for what in _LEAVE_OUT:
-            groups: Dict[bytes, List[ListedPage]] = defaultdict(list)
-            for whole, page in self.pages.items():
-                groups[getattr(self.keys[whole], what)].append(page)
-            yield from (difference(what, group) for group in groups.values() if len(group) > 1)
-
-    def beginnings(self) -> Iterator[Beginning]:
-        """Of each page the longest ones that are its beginning; those have shorter beginnings of their own."""
-        return beginnings(list(self.pages.values()))
-
-
 def difference(what: str, group: Sequence[ListedPage]) -> Difference:
     """The pages of a group, which differ in this alone."""
     return Difference(what, tuple(group), _different_words(group) if what == WORDS else ())

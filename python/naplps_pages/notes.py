@@ -21,7 +21,7 @@ from .page_finder import CarvedPage
 
 NOTE_ENDING = ".json"
 NOTE = NOTE_ENDING.encode("ascii")
-# How each note begins: `cures` and `split` tell first where their file comes from.
+# How each note begins: repairs and captures tell first where their file comes from.
 BEGINS = b'{\n  "source_name": "'
 WRITTEN_BY = b'\n  "tool": "%s ' % TOOL.encode("ascii")
 
@@ -198,13 +198,8 @@ def carved_before(stem: str, end: int) -> int:
 
 def carved_note(source: Members, found: CarvedPage, least: int, program: str) -> Members:
     """What the note on a page tells."""
-    return {**source, **carved_places(found), "answer": answer_line(found), "least": least, "program": program,
+    return {**source, **carved_places(found), "answer": found.answer.line, "least": least, "program": program,
             "tool": f"{TOOL} {VERSION}", "copy": size_and_hash(found.data)}
-
-
-def answer_line(found: CarvedPage) -> str:
-    """The answer to a page that was carved."""
-    return found.answer.line if isinstance(found.answer, (Accepted, Refusal)) else ""
 
 
 def carved_places(found: CarvedPage) -> Members:

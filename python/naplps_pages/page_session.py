@@ -1,7 +1,7 @@
 """The run of a command on single pages, with its status."""
 import os
 import sys
-from typing import TYPE_CHECKING, Any, Callable, Dict, List, Optional, Sequence
+from typing import TYPE_CHECKING, Any, Callable, Dict, Iterable, Iterator, List, Optional, Sequence, TypeVar
 
 from naplps.answers import NONSENSE, Answer, Refusal, Unanswered
 from naplps.client import Client, find
@@ -17,39 +17,43 @@ if TYPE_CHECKING:
 
     from naplps.names import Members
 
+    from .collection.progress import Progress
     from .free_names import Making
     from .listing import Earlier, Heard, Listed
 
+Item = TypeVar("Item")
 # The options that a session has.
-OPTIONS = ("json", "into", "full", "past", "png", "sheet", "look", "output_file", "html", "least", "dots", "animate",
-           "scale", "speed")
+OPTIONS = ("json", "into", "output_file", "format", "guess", "min_entries", "scale", "baud", "only",
+           "is_sheet", "explain")
 
 
 class Session:
     """One run of a command, with its options."""
 
     json: bool = False
+    # (the folder, or the one file, in which what is made is put; else it is printed)
     into: Optional[str] = None
-    full: bool = False
-    past: bool = False
-    png: bool = False
-    sheet: Optional[str] = None
-    look: bool = False
-    least: int = 0
     output_file: Optional[str] = None
-    html: bool = False
-    dots: bool = False
-    animate: bool = False
+    format: str = ""
+    guess: bool = False
+    min_entries: int = 0
     scale: int = 1
-    speed: int = 1200
+    baud: int = 1200
+    only: Optional[str] = None
+    explain: bool = False
+    # (whether the one file has a picture of all pages)
+    is_sheet: bool = False
     # (what is told of a store in place of a page, where that isn't asked about as any file)
     of_store: str = ""
     # (by what the page at work is treated; and whether refusals are counted, and not told each)
     treated: str = ""
     is_quiet: bool = False
     status: int = ACCEPTED
+    # (whether a folder was named, for the files in it)
+    is_several: bool = False
     # (whether the last file got the usual path)
     is_usual: bool = True
+    progress: "Optional[Progress]" = None
 
     def __init__(self, program: Client, names: List[str], after: "Optional[Earlier]" = None, **options: Any) -> None:
         self.program, self.names, self.after = program, names, after
@@ -71,15 +75,32 @@ class Session:
         """Keeps the gravest status."""
         self.status = max(self.status, status)
 
-    def complain(self, name: str, reason: str) -> None:
-        """Tells what is wrong with a page, which has the status 3."""
+    def complain(self, name: str, reason: str, status: int = FAILED) -> None:
+        """Tells what is wrong with a page, which has this status."""
+        self.tell(f"{shown(name)}: {reason}")
+        self.fail(status)
+
+    def tell(self, line: str) -> None:
+        """A line on standard error, after what was printed."""
         self.output.flush()
-        tell(f"{shown(name)}: {reason}")
-        self.fail(FAILED)
+        if self.progress is not None:
+            self.progress.clear()
+        tell(line)
+
+    def take_folders(self) -> None:
+        """Puts the files in a folder, and below it, in its place, and the members of a pack in that of it."""
+        from .folder_files import files_in, has_files
+        self.is_several = any(map(has_files, self.names))
+        self.names = [file for name in self.names for file in files_in(name, self.complain)]
+
+    def tell_refused(self, name: str, answer: Answer, more: str = "") -> None:
+        """Tells that a page is refused, if it is, and more; where refusals are told at all."""
+        if isinstance(answer, Refusal) and not self.is_quiet:
+            self.tell(f"{shown(name)}: {answer.line}{more}")
 
     def front(self, name: str) -> str:
         """What stands before the answer to a page: its name, where there are several."""
-        return f"{shown(name)}: " if len(self.names) > 1 else ""
+        return f"{shown(name)}: " if len(self.names) > 1 or self.is_several else ""
 
     def title(self, page: Page) -> str:
         """What stands below the picture of a page where there are several."""
@@ -98,6 +119,23 @@ class Session:
         if os.path.dirname(path):
             make_folders(self.into, path)
         return os.path.join(self.into, path)
+
+    def deliver(self, name: str, made: bytes, ending: str = "") -> None:
+        """Hands on what was made of a page: into the folder, to the one file, or to standard output."""
+        if self.into is None and self.output_file is None:
+            self.output.bytes(made)
+            return
+        from .new_files import put, put_inside
+        if self.into is not None:
+            put_inside(self.path_for(name, ending), made)
+        elif self.output_file is not None:
+            put(self.output_file, made)
+
+    def deliver_lines(self, name: str, lines: Sequence[str]) -> None:
+        """Hands on lines of text, with the name of the page in front where those of several are printed."""
+        front = self.front(name) if self.into is None and self.output_file is None else ""
+        text = "".join(f"{front}{line}\n" for line in lines)
+        self.deliver(name, text.encode("utf-8", "backslashreplace"), ".txt")
 
     def path_members(self, path: str) -> "Members":
         """What the note of a file tells of its path, where that isn't the usual one."""
@@ -130,22 +168,36 @@ class Session:
 
     def print_answer(self, page: Page, answer: Answer, **more: object) -> None:
         """Prints an answer as JSON."""
-        from .schema import dumps
-        from .schema import answered
+        from .schema import answered, dumps
         self.output.line(dumps({**answered(page.name, answer), **more}))
 
     def each(self, work: Callable[[Page], None], more: Sequence[str] = ()) -> int:
         """Does the work for each page; the status of the whole. `more` names what JSON has beside the answer."""
-        for name in self.names:
+        for name in self.names if len(self.names) == 1 else self.told(self.names, len(self.names)):
             try:
                 self._work_on(name, work, more)
             except (OutputLost, BrokenPipeError):
                 raise
             except Exception as error:  # pylint: disable=broad-except
-                from .unexpected import failure_message
-                self._without(name, failure_message(error), more)
+                from .unexpected import failure_message, status_of
+                self._without(name, failure_message(error), more, status_of(error))
         self.output.flush()
         return self.status
+
+    def told(self, items: Iterable[Item], total: int) -> Iterator[Item]:
+        """The items, of which a terminal is told how many are done where answers aren't printed on one."""
+        is_printed = self.into is None and self.output_file is None and sys.stdout.isatty()
+        if total <= 1 or is_printed or sys.stderr is None or not sys.stderr.isatty():
+            yield from items
+            return
+        from .collection.progress import Progress
+        self.progress = Progress(sys.stderr, lambda: total)
+        self.output = self.output._replace(before=self.progress.clear)
+        for done, item in enumerate(items):
+            self.progress.show(done)
+            yield item
+            self.output.flush()
+        self.progress.clear()
 
     def _work_on(self, name: str, work: Callable[[Page], None], more: Sequence[str]) -> None:
         """Does the work for a page, or answers why it has no answer."""
@@ -154,7 +206,7 @@ class Session:
         except (OutputLost, BrokenPipeError):
             raise
         except Unread as error:
-            self._without(name, str(error), more)
+            self._without(name, str(error), more, error.status)
         except NotALine:
             self._without(name, NONSENSE, more, was_read=True)
         except NotWritten as error:
@@ -172,12 +224,12 @@ class Session:
             if page and page.file:
                 page.file.close()
 
-    def _without(self, name: str, reason: str, more: Sequence[str], was_read: bool = False) -> None:
+    def _without(self, name: str, reason: str, more: Sequence[str], status: int = FAILED,
+                 was_read: bool = False) -> None:
         """Tells of a page of which there is nothing to say."""
-        self.complain(name, reason)
+        self.complain(name, reason, status)
         if self.json:
-            from .schema import dumps
-            from .schema import answered, unread
+            from .schema import answered, dumps, unread
             members = answered(name, Unanswered(reason)) if was_read else unread(name, reason)
             self.output.line(dumps({**members, **dict.fromkeys(more)}))
 
@@ -191,7 +243,7 @@ def on_pages(given: "Namespace", tool: str, work: Callable[[Session], int], limi
     """Runs a command on pages; the status. `of_store` is told where one of them is a store, `on_store` takes one that
     is named alone, and `tool` is the path of the tool, beside which naplps may stand."""
     try:
-        client = Client(find(tool), given.budget, limits._replace(seconds=given.seconds))
+        client = Client(find(tool), given.budget, limits._replace(seconds=given.timeout))
         try:
             return _work(client, given, work, of_store, on_store)
         finally:
@@ -205,9 +257,9 @@ def _work(client: Client, given: "Namespace", work: Callable[[Session], int], of
           on_store: Optional[OfStore]) -> int:
     after: Optional["Earlier"] = None
     is_of_store = on_store is not None and _is_store(given.pages)
-    if getattr(given, "after", None):
+    if getattr(given, "previous", None):
         from .listing import read_earlier
-        after = read_earlier(given.after, given.seconds)
+        after = read_earlier(given.previous, given.timeout)
     if on_store is not None and is_of_store:
         return on_store(given, client, after)
     options = {name: value for name, value in vars(given).items() if name in OPTIONS}

@@ -2,46 +2,46 @@
 import argparse
 import contextlib
 import os
-import re
 import sys
 from functools import partial
-from typing import Any, Dict, List, NoReturn, Optional, cast
+from textwrap import fill
+from typing import Any, Dict, Iterator, List, NoReturn, Optional, cast
 
 from naplps.names import shown
 
 from . import TOOL
-from .commands import (
-    NAMES, SHARED_WORDS, Argument, Given, OneOf, Option, Part, command, options, renamed_message, unknown,
-)
+from .commands import GROUPS, MODULES, Argument, Given, OneOf, Option, command, in_group, unknown
 
 # argparse makes a formatter for each option, and asks shutil for the width of the terminal, which takes long.
 NARROW = partial(argparse.HelpFormatter, width=80)
 USAGE = f"{TOOL} COMMAND [ARGUMENT ...]"
 HELP = f"`{TOOL} help` lists the commands"
+TITLE = "Finds, checks, draws, compares, recovers and makes NAPLPS pages."
+MORE = (f"`{TOOL} help COMMAND` describes a command. `{TOOL} FILE` says what a file is. The manual, man {TOOL}, lists "
+        "the exit statuses.")
+WIDTH = 80
+HELPS = ("help", "-h", "--help")
 
 
 class Parser(argparse.ArgumentParser):
     """A parser that raises OSError where its help can't be printed, with each version of Python.
 
-    `parts` are those of its command, which `ending` describes too; `notices` tell of words of earlier versions;
-    `words` are those that it reads.
+    `example` is what its help shows; `words` are those that it reads.
     """
 
-    parts: List[Part] = []
-    ending = ""
-    notices: List[str]
+    example = ""
     words: List[str] = []
 
     def format_help(self) -> str:
         """The help, which is as wide as the terminal."""
-        self.formatter_class, self.epilog = argparse.HelpFormatter, _shared(self.parts) + self.ending
-        usage, end, rest = super().format_help().partition("\n\n")
-        return _single_spaced(usage) + end + rest
+        self.formatter_class = argparse.HelpFormatter
+        example = f"\nexample:\n  {TOOL} {self.example}\n" if self.example else ""
+        return super().format_help() + example
 
     def format_usage(self) -> str:
         """The usage, which is as wide as the terminal."""
         self.formatter_class = argparse.HelpFormatter
-        return _single_spaced(super().format_usage())
+        return super().format_usage()
 
     def error(self, message: str) -> NoReturn:
         """Exits, and says how a file is named whose name was taken for an option."""
@@ -51,6 +51,13 @@ class Parser(argparse.ArgumentParser):
                 break
         super().error(message)
 
+    def refuse_old_words(self, words: List[str]) -> None:
+        """Exits where an option is one of earlier versions, and says what it is now."""
+        from .old_words import OPTIONS
+        for option in (word.partition("=")[0] for word in words):
+            if option not in self._option_string_actions and option in OPTIONS:
+                super().error(f"{option} is now {OPTIONS[option]}")
+
     def _print_message(self, message: str, file: Any = None) -> None:
         if file is not None and file is sys.stdout:
             file.write(message)
@@ -59,34 +66,15 @@ class Parser(argparse.ArgumentParser):
                 super()._print_message(message, file)
 
 
-def _single_spaced(usage: str) -> str:
-    """A usage in which options that aren't listed leave no room."""
-    return re.sub(r"(?<=\S)  +(?=\S)", " ", usage)
-
-
-class OldOption(argparse.Action):
-    """An option of earlier versions, which says what is written in its place."""
-
-    def __init__(self, now: str, **settings: Any) -> None:
-        super().__init__(**settings)
-        self.now = now
-
-    def __call__(self, parser: Any, namespace: argparse.Namespace, values: Any,
-                 option_string: Optional[str] = None) -> None:
-        setattr(namespace, self.dest, self.const if self.nargs == 0 else values)
-        if self.now != option_string:  # (of a word that another stands for it was told)
-            parser.notices.append(renamed_message(option_string or "", self.now))
-
-
 def parser_of(named: str) -> Parser:
     """The parser of the command of this name."""
     declared = command(named)
     title = declared.help[0].upper() + declared.help[1:] + "."
-    made = Parser(prog=f"{TOOL} {named}", description=title, allow_abbrev=False, formatter_class=NARROW)
-    made.parts, made.ending = declared.parts(), declared.ending
-    made.notices = [renamed_message(named, declared.now)] if declared.now else []
-    made.set_defaults(parser=made, command=named)
-    for part in made.parts:
+    made = Parser(prog=f"{TOOL} {named}", description=title, epilog=declared.ending or None, allow_abbrev=False,
+                  formatter_class=NARROW)
+    made.example = declared.example
+    made.set_defaults(parser=made, run=declared.run)
+    for part in declared.parts():
         if isinstance(part, Argument):
             made.add_argument(part.to, metavar=part.title, nargs=cast(Any, part.number), type=part.read,
                               help=part.help)
@@ -100,56 +88,77 @@ def parser_of(named: str) -> Parser:
 
 
 def _add(to: Any, option: Option) -> None:
-    """Adds an option. Those of several commands, and of earlier versions, aren't in the help."""
-    is_listed = option.word not in SHARED_WORDS and not option.now
-    settings: Dict[str, Any] = {"help": option.help if is_listed else argparse.SUPPRESS, "default": option.default}
+    """Adds an option."""
+    settings: Dict[str, Any] = {"help": option.help, "default": option.default}
     if option.to:
         settings["dest"] = option.to
-    if option.now:
-        settings.update(action=OldOption, now=option.now)
     if not option.title:
-        if option.now:
-            settings.update(nargs=0, const=option.puts or True)
-        elif option.puts is None:
+        if option.puts is None:
             settings.update(action="store_true")
         else:
             settings.update(action="store_const", const=option.puts)
     else:
         settings.update(metavar=option.title, type=option.read, required=option.is_required)
-        if option.is_repeated and not option.now:
+        if option.is_repeated:
             settings.update(action="append")
         if option.choices:
             settings.update(choices=option.choices)
-    to.add_argument(option.word, **settings)
+    to.add_argument(*([option.short] if option.short else []), option.word, **settings)
 
 
-def _shared(parts: List[Part]) -> str:
-    """What names those options of a command that several commands have."""
-    words = sorted(each.word for each in options(parts) if each.word in SHARED_WORDS and not each.now)
-    return f"Takes {', '.join(words)} too: see `{TOOL} help options`. " if words else ""
+def help_lines() -> Iterator[str]:
+    """The help on all commands."""
+    yield f"usage: {USAGE}\n\n{TITLE}"
+    for group in GROUPS:
+        yield f"\n{group}:"
+        for name in in_group(group):
+            text = fill(command(name).help, WIDTH - 14)
+            yield f"  {name:10}" + text.replace("\n", "\n" + " " * 12)
+    yield "\n" + fill(MORE, WIDTH)
 
 
-def _fail(why: str) -> None:
-    """Exits where the words name no command."""
-    Parser(prog=TOOL, usage=USAGE).error(f"{why} {HELP}")
+def _help(words: List[str]) -> None:
+    """Prints the help, on all commands or on the one that is named."""
+    if not words:
+        sys.stdout.write("\n".join(help_lines()) + "\n")
+    elif words[0] in MODULES:
+        sys.stdout.write(parser_of(words[0]).format_help())
+    else:
+        _fail(words[0])
 
 
-def read_words(words: List[str]) -> Given:
-    """What the words say. Exits where they are wrong, or ask for help."""
-    first = words[0] if words else ""
-    if first in ("-h", "--help"):
-        words = ["help", *words[1:]]
-    elif not words or first.startswith("-"):
-        _fail("a command is needed;" if not words else f"{shown(first)} stands before the command;")
-    elif first not in NAMES:
-        _fail(unknown(first))
-    declared, parser = command(words[0]), parser_of(words[0])
-    renewed = declared.renew(words[1:])
-    if renewed:
-        parser.notices.append(renewed[1])
-    parser.words = renewed[0] if renewed else words[1:]
-    given, others = parser.parse_known_args(parser.words)
-    if others:
-        parser.error(f"unrecognized arguments: {' '.join(map(shown, others))}")
-    declared.check(given)
+def _fail(word: str) -> NoReturn:
+    """Exits where a word names no command."""
+    from .old_words import COMMANDS
+    if word in COMMANDS:
+        Parser(prog=TOOL, usage=USAGE).exit(2, f"{TOOL}: {word} is now {COMMANDS[word]}\n")
+    Parser(prog=TOOL, usage=USAGE).error(f"{unknown(word)} {HELP}")
+
+
+def read_words(words: List[str]) -> Optional[Given]:
+    """What the words say; None where they ask for help, which is printed. Exits where they are wrong."""
+    if not words:
+        Parser(prog=TOOL, usage=USAGE).error(f"a command is needed; {HELP}")
+    first = words[0]
+    if first in HELPS:
+        _help(words[1:])
+        return None
+    if first.startswith("-"):
+        Parser(prog=TOOL, usage=USAGE).error(f"{shown(first)} stands before the command; {HELP}")
+    if first not in MODULES:
+        if not os.path.lexists(first):
+            _fail(first)
+        if any(word.startswith("-") and word != "-" for word in words):
+            Parser(prog=TOOL, usage=USAGE).error(f"options need a command; {HELP}")
+        from .introduction import given_of
+        return given_of(words)
+    parser = parser_of(first)
+    parser.words = words[1:]
+    options = [word for word in words[1:words.index("--") if "--" in words else None] if word.startswith("--")]
+    if options:
+        parser.refuse_old_words(options)
+    given = parser.parse_args(parser.words)
+    command(first).check(given)
     return given
+
+

@@ -24,7 +24,7 @@ PAGE = "PAGE"
 
 @dataclass(frozen=True)
 class RefusalText:
-    """What is said of a refusal, or of one code or case of it, and which treatments of `cures` are for it."""
+    """What is said of a refusal, or of one code or case of it, and which repairs are for it."""
 
     number: int
     name: str

@@ -11,6 +11,7 @@ from typing import IO, List, NamedTuple, Optional, Type, cast
 from naplps.limits import MOST_PAGE
 
 from . import messages
+from .console import FAILED
 
 
 class Late(OSError):
@@ -84,7 +85,11 @@ def is_store(page: Page) -> bool:
 
 
 class Unread(Exception):
-    """The page can't be read, with the system's reason."""
+    """The page can't be read, with the system's reason; or it isn't the page that was scanned, which has a status."""
+
+    def __init__(self, reason: str, status: int = FAILED) -> None:
+        super().__init__(reason)
+        self.status = status
 
 
 def read(name: str, seconds: float) -> Page:

@@ -3,11 +3,15 @@ import os
 
 from naplps.names import shown
 
+from .console import FAILED, TOOL_FAILED
+
 PACKAGE = os.path.dirname(os.path.abspath(__file__))
 # That of the module naplps, which stands beside it.
 MODULE = os.path.join(os.path.dirname(PACKAGE), "naplps")
 MOST_SAID = 200
-FAILED = "the tool itself failed (%s): %s"
+# What Python says where the system starts no thread.
+NO_THREAD = "can't start new thread"
+SAID = "the tool itself failed (%s): %s"
 
 
 class Unexpected(Exception):
@@ -15,6 +19,14 @@ class Unexpected(Exception):
 
     def __init__(self, name: str, error: Exception) -> None:
         super().__init__(f"{shown(name)}: {failure_message(error)}")
+        self.status = status_of(error)
+
+
+def status_of(error: Exception) -> int:
+    """The status with which that ends: one of its own where the tool itself failed."""
+    is_of_system = isinstance(error, (MemoryError, ImportError)) or isinstance(error, OSError) and bool(error.errno)
+    is_of_system = is_of_system or str(error) == NO_THREAD
+    return FAILED if is_of_system else TOOL_FAILED
 
 
 def failure_message(error: Exception) -> str:
@@ -24,7 +36,7 @@ def failure_message(error: Exception) -> str:
     if isinstance(error, MemoryError):
         return "there is no memory for it"
     text = shown(f"{type(error).__name__}: {error}")[:MOST_SAID]
-    return FAILED % (_place(error), text)
+    return SAID % (_place(error), text)
 
 
 def _place(error: Exception) -> str:

@@ -1,11 +1,15 @@
 """A browser for the tests of a file, and another one after a test that failed. There pytest-rerunfailures, where it is
 installed, runs the test once more: on a busy machine a part of Chromium may end.
 """
+from pathlib import Path
 from typing import Iterator, List
 
 import pytest
 
 from browser import Browser
+from browser_page import MODULE
+
+from dev.packaging.for_pages import page
 
 
 @pytest.fixture(scope="module")
@@ -14,6 +18,12 @@ def browser() -> Iterator[Browser]:
     chromium = Browser()
     yield chromium
     chromium.close()
+
+
+@pytest.fixture(scope="session")
+def document() -> str:
+    """The page naplps.html as text."""
+    return page(Path(MODULE).read_bytes())
 
 
 def pytest_collection_modifyitems(items: "List[pytest.Item]") -> None:

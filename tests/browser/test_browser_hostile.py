@@ -1,15 +1,12 @@
 """The page naplps.html with files that take all they can: it answers meanwhile and after."""
 
-import pytest
-
 from boxes import box
-from browser_page import MODULE, cards, choose, clicked, needs_module
+from browser_page import cards, choose, clicked, needs_module, opened
 from canonical_trial import asked
 from folders import write_files
 from samples import POINT, needs_chromium
 
 from module_hostile import pages
-from dev.packaging.for_pages import page
 
 pytestmark = [needs_chromium, needs_module]
 # The longest that the page may answer nothing, in milliseconds: less than one file may take.
@@ -26,18 +23,9 @@ ASKED = "self.onmessage = ({ data }) => {"
 SLOW = ASKED + " if (data.ask !== 'make' && data.bytes && data.bytes[0] === 0x5a) for (;;);"
 
 
-@pytest.fixture(scope="module")
-def document():
-    """The page as text."""
-    with open(MODULE, "rb") as file:
-        return page(file.read())
-
-
-def opened(browser, folder, text):
+def watched(browser, folder, text):
     """Opens the page from a file of a folder, and watches how long it answers nothing."""
-    path = folder / "naplps.html"
-    path.write_text(text, "utf-8")
-    browser.open(path.as_uri())
+    opened(browser, folder, text)
     browser.run(WATCH)
 
 
@@ -49,7 +37,7 @@ def is_usable(browser):
 
 
 def test_hostile_pages_leave_the_page_usable(document, browser, tmp_path):
-    opened(browser, tmp_path, document)
+    watched(browser, tmp_path, document)
     files = {f"{number} {name}.nap": data for number, (name, data) in enumerate(pages().items())}
     choose(browser, write_files(tmp_path / "files", {**files, "point.nap": POINT}))
     texts = cards(browser)
@@ -66,7 +54,7 @@ def test_hostile_pages_leave_the_page_usable(document, browser, tmp_path):
 
 def test_a_box_of_files_is_read_while_the_page_answers(document, browser, tmp_path, naplps):
     """And it asks no network for anything. (python3 -m dev.measure_box has 2,000 files, and tells the times.)"""
-    opened(browser, tmp_path, document)
+    watched(browser, tmp_path, document)
     files = box(200, 1)
     choose(browser, write_files(tmp_path / "files", files))
     texts, answers = cards(browser), asked(naplps, [*files.values()])
@@ -81,7 +69,7 @@ def test_a_box_of_files_is_read_while_the_page_answers(document, browser, tmp_pa
 
 def test_a_page_that_takes_ten_seconds_is_left(document, browser, tmp_path):
     assert document.count(ASKED) == 1
-    opened(browser, tmp_path, document.replace(ASKED, SLOW))
+    watched(browser, tmp_path, document.replace(ASKED, SLOW))
     choose(browser, write_files(tmp_path / "files", {"slow.nap": b"Z", "point.nap": POINT}))
     slow, point = cards(browser)
     assert "not read: it takes more than ten seconds" in slow and "accepted 1 entries" in point

@@ -5,17 +5,14 @@ import csv
 import hashlib
 import io
 import os
-import zipfile
 
 import pytest
 
-from browser_page import LONG, MAX_MEMORY, MODULE, cards, choose, clicked, needs_module, saved
+from browser_page import LONG, MAX_MEMORY, MODULE, cards, choose, clicked, needs_module, opened, saved, unpacked
 from canonical_trial import asked
 from folders import write_files
 from node import ask_node
 from samples import OUTSIDE, POINT, SPELLED, needs_chromium, needs_node
-
-from dev.packaging.for_pages import page
 
 pytestmark = needs_module
 # Refused after so many entries that their lines have some 65 MB.
@@ -34,8 +31,8 @@ def text_of(data):
 
 def by_worker(*questions):
     """What the worker answers, and the most memory of its module."""
-    said = ask_node("worker_answers.mjs", questions, MODULE)
-    return said["answers"], said["memory"]
+    result = ask_node("worker_answers.mjs", questions, MODULE)
+    return result["answers"], result["memory"]
 
 
 @needs_node
@@ -86,27 +83,18 @@ def test_checksums():
     ["page.nap"] * 20_000, [f"page.nap {number}" for number in range(2, 10_000)] + ["page.nap"] * 10_000,
     [f"page.nap{' 2' * (number % 7)}" for number in range(20_000)]])
 def test_equal_names_of_a_zip_take_few_steps(names):
-    said = ask_node("zip_steps.mjs", names)
-    assert said["steps"] <= 4 * len(names)
-    with zipfile.ZipFile(io.BytesIO(base64.b64decode(said["zip"]))) as archive:
-        found = archive.namelist()
-    assert len(found) == len(set(found)) == len(names)
+    result = ask_node("zip_steps.mjs", names)
+    assert result["steps"] <= 4 * len(names)
+    found = unpacked(base64.b64decode(result["zip"]))
+    assert len(found) == len(names)
 
 
 @needs_node
 def test_the_names_of_a_zip():
     names = ["a", "a", "a 2", "a", "b/../a", "a 2", "a 2 2", "", "/", "constructor", "__proto__", "__proto__"]
-    said = ask_node("zip_steps.mjs", names)
-    with zipfile.ZipFile(io.BytesIO(base64.b64decode(said["zip"]))) as archive:
-        assert archive.namelist() == ["a", "a 2", "a 2 2", "a 3", "b/a", "a 2 3", "a 2 2 2", "page", "page 2",
-                                      "constructor", "__proto__", "__proto__ 2"]
-
-
-@pytest.fixture(scope="module")
-def document():
-    """The page as text."""
-    with open(MODULE, "rb") as file:
-        return page(file.read())
+    found = unpacked(base64.b64decode(ask_node("zip_steps.mjs", names)["zip"]))
+    assert [*found] == ["a", "a 2", "a 2 2", "a 3", "b/a", "a 2 3", "a 2 2 2", "page", "page 2", "constructor",
+                        "__proto__", "__proto__ 2"]
 
 
 @pytest.fixture(scope="module")
@@ -114,12 +102,6 @@ def browser(browser):
     """A browser that takes scripts which aren't those of the policy."""
     browser.call("Page.setBypassCSP", enabled=True)
     return browser
-
-
-def opened(browser, folder, text):
-    """Opens the page from a file of a folder."""
-    (folder / "naplps.html").write_text(text, "utf-8")
-    browser.open((folder / "naplps.html").as_uri())
 
 
 @needs_chromium
@@ -137,9 +119,9 @@ def test_a_page_whose_stream_needs_more_memory_is_accepted(document, browser, tm
     rows = list(csv.reader(io.StringIO(saved(browser, "document.getElementById('table').click()").decode("utf-8"))))
     long = ["1024", "accepted", str(LONG.entries), "", "", "", ""]
     assert rows[1:3] == [["a.nap", *long], ["b.nap", *long]]
-    with zipfile.ZipFile(io.BytesIO(saved(browser, "document.getElementById('zip').click()"))) as archive:
-        assert archive.namelist() == ["c.nap", "d.nap"]
-        assert archive.read("d.nap") == asked(naplps, [POINT])[0].canonical
+    [point] = asked(naplps, [POINT])
+    found = unpacked(saved(browser, "document.getElementById('zip').click()"))
+    assert found == {"c.nap": point.canonical, "d.nap": point.canonical}
     assert browser.errors == []
 
 
@@ -157,8 +139,7 @@ def test_streams_and_files_that_are_kept_have_a_limit(document, browser, tmp_pat
     assert "accepted 1 entries" in texts[2] and "The same as a.nap, b.nap" in texts[2]
     assert browser.run(COUNTED) == ("3 files: 3 accepted, 0 not; 1 different page, 1 of them more than once; "
                                     "1 accepted page has no canonical stream here")
-    with zipfile.ZipFile(io.BytesIO(saved(browser, "document.getElementById('zip').click()"))) as archive:
-        assert archive.namelist() == ["a.nap", "b.nap"]
+    assert [*unpacked(saved(browser, "document.getElementById('zip').click()"))] == ["a.nap", "b.nap"]
     browser.until("[...document.querySelectorAll('.card img')].every((each) => each.naturalWidth)")
     browser.run(clicked("Details", 2))
     browser.until("document.querySelector('#detail pre')?.textContent.startsWith('POINT 4194304,4194304 ')")

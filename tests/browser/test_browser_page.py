@@ -1,38 +1,39 @@
 """The page naplps.html in a browser: files that are dropped in, one page, pages that are made, hostile files."""
 import csv
-import functools
-import http.server
 import io
 import os
 import re
 import subprocess
 import sys
-import threading
-import urllib.parse
-import zipfile
 
 import pytest
 
-from browser_page import MODULE, cards, choose, clicked, needs_module, saved
+from browser_page import MODULE, cards, choose, clicked, needs_module, opened, saved, unpacked
 from canonical_trial import asked
 from command import TOP
 from folders import write_files
 from gallery import pages
-from samples import BOMB, OUTSIDE, POINT, SPELLED, needs_chromium
+from samples import OUTSIDE, POINT, SPELLED, needs_chromium
+from sites import Silent, served
 from stream_writer import StreamWriter
-
-from dev.packaging.for_pages import page
 
 pytestmark = [needs_chromium, needs_module]
 HOSTILE = "<img src=x onerror=alert(1)>.nap"
 
 
 @pytest.fixture(scope="module")
-def address(tmp_path_factory):
+def folder(tmp_path_factory):
+    """A folder with the page."""
+    folder = tmp_path_factory.mktemp("page")
+    subprocess.run([sys.executable, "-m", "dev.browser", "--page", str(folder / "naplps.html"), "--module", MODULE],
+                   check=True, cwd=TOP)
+    return folder
+
+
+@pytest.fixture(scope="module")
+def address(folder):
     """The address of the page as a file of a disk."""
-    path = tmp_path_factory.mktemp("page") / "naplps.html"
-    subprocess.run([sys.executable, "-m", "dev.browser", "--page", str(path), "--module", MODULE], check=True, cwd=TOP)
-    return path.as_uri()
+    return (folder / "naplps.html").as_uri()
 
 
 def drop(browser, paths, count):
@@ -62,28 +63,16 @@ def test_files_are_answered_and_drawn(address, browser, tmp_path):
 NAMES = "[...document.querySelectorAll('.card h2')].map((each) => each.textContent)"
 
 
-@pytest.fixture
-def served(address, tmp_path):
-    """The address of the page on a web server."""
-    path = urllib.parse.unquote(urllib.parse.urlsplit(address).path)
-    handler = functools.partial(Silent, directory=os.path.dirname(path))
-    with http.server.ThreadingHTTPServer(("127.0.0.1", 0), handler) as server:
-        threading.Thread(target=server.serve_forever, daemon=True).start()
-        yield f"http://127.0.0.1:{server.server_port}/{os.path.basename(path)}"
-        server.shutdown()
+@pytest.fixture(params=["a disk", "a web server"])
+def where(request, folder, address, browser):
+    """Where the page is that is opened."""
+    with served(folder, Silent) as top:
+        browser.open(address if request.param == "a disk" else top + "naplps.html")
+        yield request.param
 
 
-class Silent(http.server.SimpleHTTPRequestHandler):
-    """A web server that prints nothing."""
-
-    def log_message(self, format, *arguments):  # noqa: A002
-        pass
-
-
-@pytest.mark.parametrize("where", ["a disk", "a web server"])
-def test_files_and_folders_are_dropped(address, served, browser, tmp_path, where):
+def test_files_and_folders_are_dropped(browser, tmp_path, where):
     """A file, an empty folder, a folder with a folder in it, and one of more files than a browser gives at once."""
-    browser.open(address if where == "a disk" else served)
     [file] = write_files(tmp_path, {"single.nap": POINT})
     box, many = tmp_path / "box", tmp_path / "many"
     write_files(box, {"b.nap": SPELLED})
@@ -105,17 +94,13 @@ def test_files_and_folders_are_dropped(address, served, browser, tmp_path, where
     assert browser.run("location.href").endswith("naplps.html") and browser.errors == []
 
 
-def test_of_too_many_files_the_first_are_read(browser, tmp_path):
-    with open(MODULE, "rb") as module:
-        text = page(module.read())
-    assert text.count("MOST_FILES = 20000") == 1
-    few = tmp_path / "few.html"
-    few.write_text(text.replace("MOST_FILES = 20000", "MOST_FILES = 3"), "utf-8")
+def test_of_too_many_files_the_first_are_read(document, browser, tmp_path):
+    assert document.count("MOST_FILES = 20000") == 1
     paths = write_files(tmp_path / "files", {f"{number}.nap": POINT for number in range(5)})
     browser.call("Page.setBypassCSP", enabled=True)  # (the script isn't that of the policy any more)
     try:
         for some in ([tmp_path / "files"], paths):
-            browser.open(few.as_uri())
+            opened(browser, tmp_path, document.replace("MOST_FILES = 20000", "MOST_FILES = 3"))
             drop(browser, some, 3)
             assert browser.run("document.getElementById('fault').textContent") == (
                 "Only the first 3 files of those are read.")
@@ -144,8 +129,7 @@ def test_a_place_of_the_picture_marks_what_drew_it(address, browser, tmp_path):
     for x, y, row, entry in ((0.2, 0.2, 1, 2), (0.7, 0.5, 2, 3)):
         place = browser.run("""((it) => [it.left + it.width * %f, it.bottom - it.width * %f])(
           document.querySelector('#detail canvas').getBoundingClientRect())""" % (x, y))
-        for kind in ("mousePressed", "mouseReleased"):
-            browser.call("Input.dispatchMouseEvent", type=kind, x=place[0], y=place[1], button="left", clickCount=1)
+        browser.click(*place)
         assert browser.run("document.querySelector('.code[aria-selected=true]').dataset.row") == str(row)
         about = browser.run("document.querySelector('.about').textContent")
         line = browser.run("document.querySelector('#detail pre').textContent").split("\n")[entry - 1]
@@ -169,10 +153,8 @@ def test_what_is_saved(address, browser, tmp_path, naplps):
     accepted = ["5", "accepted", "1", "", "", "", "1"]
     refused = ["'=c.nap", "5", "refused", "", "10", "Outside", "3", ""]
     assert rows[1:] == [["a.nap", *accepted], ["b.nap", *accepted], refused]
-    packed = saved(browser, "document.getElementById('zip').click()")
-    with zipfile.ZipFile(io.BytesIO(packed)) as archive:
-        assert archive.testzip() is None and archive.namelist() == ["a.nap", "b.nap"]
-        assert archive.read("b.nap") == answer.canonical
+    found = unpacked(saved(browser, "document.getElementById('zip').click()"))
+    assert found == {"a.nap": answer.canonical, "b.nap": answer.canonical}
 
 
 def test_one_page(address, browser, tmp_path):
@@ -203,15 +185,6 @@ def test_pages_are_made_as_they_are_typed(address, browser, naplps):
     browser.run(type_ % "BELL\n")
     browser.until("document.getElementById('made').textContent === 'accepted 1 entries'")
     assert saved(browser, "document.getElementById('keep').click()") == b"\x0e\x21\x5f\x07" and browser.errors == []
-
-
-def test_a_page_that_takes_too_long_leaves_the_others(address, browser, tmp_path):
-    browser.open(address)
-    files = {"bomb.nap": BOMB, "a.nap": POINT, "empty": b"", "long": b"A" * 300_000}
-    choose(browser, write_files(tmp_path / "files", files))
-    texts = cards(browser)
-    assert len(texts) == 4 and "accepted 1 entries" in texts[1] and "accepted 0 entries" in texts[2]
-    assert re.search("accepted 21,?[0-9,]* entries|not read: |refused 21 Memory", texts[0]) and browser.errors == []
 
 
 @pytest.mark.parametrize("wide, dark", [(390, False), (390, True), (1240, True)])

@@ -1,11 +1,8 @@
 """The picture in JavaScript beside the sketch, and the element <naplps-page> in a browser, under a strict policy."""
-import functools
-import http.server
 import json
 import os
 import re
 import subprocess
-import threading
 
 import pytest
 
@@ -13,12 +10,13 @@ from browser_page import MODULE, needs_module
 from canonical_trial import asked, framed
 from canonical_vectors import vectors
 from command import LIB
-from element_page import PAGE, READY, Quiet, make_element
+from element_page import make_element, make_page
 from gallery import pages
 from naplps.dots import raster
 from naplps.drawing.walk import drawn
 from naplps.entry import read_line
 from samples import needs_chromium, needs_node
+from sites import served
 
 
 @needs_node
@@ -26,10 +24,10 @@ def test_pictures_are_the_sketches(naplps):
     found = [(stream, lines) for stream, lines in vectors() if len(lines) < 3_000]
     answers = [each for each in asked(naplps, list(pages().values())) if each.canonical]
     found += [(each.canonical, each.lines.decode("ascii").splitlines()) for each in answers]
-    said = subprocess.run(["node", os.path.join(LIB, "picture_answers.mjs")], capture_output=True, check=True,
-                          input=framed(stream for stream, _ in found)).stdout.splitlines()
+    pictures = subprocess.run(["node", os.path.join(LIB, "picture_answers.mjs")], capture_output=True, check=True,
+                              input=framed(stream for stream, _ in found)).stdout.splitlines()
     compared = 0
-    for (stream, lines), line in zip(found, said):
+    for (stream, lines), line in zip(found, pictures):
         mine, paper = json.loads(line), drawn(lines, prefix="n").paper
         assert mine.startswith("<svg xmlns=") and mine.count("<title>A &lt;page&gt; &amp; \"more\"</title>") == 1
         if "url(#" in mine:
@@ -45,7 +43,6 @@ def site(tmp_path_factory, naplps):
     """The address of a site with the element and pages."""
     folder = tmp_path_factory.mktemp("site")
     make_element(folder / "naplps-page.js")
-    (folder / "ready.js").write_text(READY, "utf-8")
     names = ("weather.nap", "ferry.nap", "glyphs.nap")
     for name, answer in zip(names, asked(naplps, [pages()[name] for name in names])):
         (folder / name).write_bytes(answer.canonical)
@@ -57,17 +54,12 @@ def site(tmp_path_factory, naplps):
     dots = ('<naplps-page id="f" src="weather.nap" alt="A &lt;b&gt;map&lt;/b&gt;" view="dots"></naplps-page>'
             '<naplps-page id="g" src="glyphs.nap" view="dots"></naplps-page>'
             '<naplps-page id="h" src="relative.nap" view="dots"></naplps-page>')
-    (folder / "dots.html").write_text(PAGE % dots, "utf-8")
-    (folder / "index.html").write_text(PAGE % elements, "utf-8")
-    if os.path.exists(MODULE):
-        with open(MODULE, "rb") as file:
-            (folder / "naplps.wasm").write_bytes(file.read())
-    (folder / "full.html").write_text(
-        PAGE % '<naplps-page id="e" src="relative.nap" alt="a skyline" reader="full"></naplps-page>', "utf-8")
-    server = http.server.ThreadingHTTPServer(("127.0.0.1", 0), functools.partial(Quiet, directory=str(folder)))
-    threading.Thread(target=server.serve_forever, daemon=True).start()
-    yield f"http://127.0.0.1:{server.server_port}/"
-    server.shutdown()
+    full = '<naplps-page id="e" src="relative.nap" alt="a skyline" reader="full"></naplps-page>'
+    for name, some in {"index.html": elements, "dots.html": dots, "full.html": full}.items():
+        make_page(folder, name, some)
+    (folder / "naplps.wasm").symlink_to(MODULE)
+    with served(folder) as address:
+        yield address
 
 
 def inside(browser, name, part):

@@ -1,15 +1,11 @@
 """How much <naplps-page> takes of what a server sends."""
 import base64
-import functools
-import http.server
-import threading
 
-
-from browser import Browser
 from browser_page import LONG, MAX_MEMORY, MODULE, needs_module
-from element_page import PAGE, READY, Quiet, make_element
+from element_page import make_element, make_page
 from node import ask_node
 from samples import needs_chromium, needs_node
+from sites import Strict, served
 
 MOST, PIECE = 1 << 20, 1 << 16
 TOO_LONG = f"it has more than {MOST} bytes"
@@ -21,8 +17,8 @@ def taken(status=200, piece=PIECE, count=ENDLESS // PIECE, **headers):
     """What the element takes of a response: how many bytes, whether it cancels the rest, and the message."""
     about = {"status": status, "headers": {name.replace("_", "-"): value for name, value in headers.items()},
              "piece": piece, "count": count}
-    [said] = ask_node("element_reads.mjs", [about], MODULE)
-    return said["taken"], said["isCancelled"], said["message"]
+    [result] = ask_node("element_reads.mjs", [about], MODULE)
+    return result["taken"], result["isCancelled"], result["message"]
 
 
 @needs_node
@@ -47,11 +43,11 @@ def test_what_the_header_promises_too_long_is_not_read():
 @needs_node
 @needs_module
 def test_the_module_has_64_mebibytes_of_memory():
-    [said] = ask_node("element_reads.mjs", [{"page": base64.b64encode(LONG.page).decode("ascii")}], MODULE)
-    assert said["message"] == f"it draws more than {MOST} bytes" and said["memory"] <= MAX_MEMORY
+    [result] = ask_node("element_reads.mjs", [{"page": base64.b64encode(LONG.page).decode("ascii")}], MODULE)
+    assert result["message"] == f"it draws more than {MOST} bytes" and result["memory"] <= MAX_MEMORY
 
 
-class Endless(Quiet):
+class Endless(Strict):
     """Sends a page without an end, and notes how much of it was taken."""
 
     sent = 0
@@ -71,18 +67,10 @@ class Endless(Quiet):
 
 
 @needs_chromium
-def test_a_browser_ends_what_is_too_long(tmp_path):
+def test_a_browser_ends_what_is_too_long(browser, tmp_path):
     make_element(tmp_path / "naplps-page.js")
-    (tmp_path / "ready.js").write_text(READY, "utf-8")
-    (tmp_path / "index.html").write_text(PAGE % '<naplps-page id="a" src="endless.nap"></naplps-page>', "utf-8")
-    server = http.server.ThreadingHTTPServer(("127.0.0.1", 0), functools.partial(Endless, directory=str(tmp_path)))
-    threading.Thread(target=server.serve_forever, daemon=True).start()
-    browser = Browser()
-    try:
-        browser.open(f"http://127.0.0.1:{server.server_port}/index.html")
+    make_page(tmp_path, "index.html", '<naplps-page id="a" src="endless.nap"></naplps-page>')
+    with served(tmp_path, Endless) as address:
+        browser.open(address + "index.html")
         assert browser.run("told") == [["a", "error", TOO_LONG]]
         assert MOST < Endless.sent < ENDLESS // 4 and browser.errors == []
-    finally:
-        browser.close()
-        server.shutdown()
-        server.server_close()

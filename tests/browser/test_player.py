@@ -16,7 +16,7 @@ from naplps.entry import ONE, placed
 from naplps_pages.listing import listed
 from naplps_pages.player import played
 from naplps_pages.source import Page
-from players import drawn_of, how_like, like, play, want
+from players import COMPARED, drawn_of, how_like, like, play
 from samples import POINT, needs_chromium, needs_node
 from sketches import bomb
 from stream_writer import StreamWriter
@@ -24,7 +24,6 @@ from stream_writer import StreamWriter
 pytestmark = needs_chromium
 FOLDER = os.path.join(TOP, "examples", "gallery")
 PAGES = gallery.NAMES
-SIZE = (1024, 800)
 # Shapes are told by the entries that they came with; a run of letters is one.
 STEPS = "player.screen.table.steps.map((step, at) => step.draw ? at : -1).filter((at) => at >= 0)"
 # What a picture without one step is to the wanted one, and to that with it.
@@ -42,7 +41,7 @@ WITHOUT = """
   player.showNow(player.line.whole);
   return told;
 })()
-"""
+""".replace("@HOW@", COMPARED)
 
 
 @pytest.fixture(scope="module")
@@ -61,8 +60,8 @@ def shown(browser, naplps, tmp_path):
     def shows(page, bypass=False, words=()):
         browser.call("Page.setBypassCSP", enabled=bypass)
         path = page if isinstance(page, str) else file(tmp_path, "page.nap", page)
-        said, address = play(naplps, path, os.path.join(str(tmp_path), "player.html"), *words)
-        assert said.returncode in (0, 1), said.stderr
+        result, address = play(naplps, path, os.path.join(str(tmp_path), "player.html"), *words)
+        assert result.returncode in (0, 1), result.stderr
         browser.size(1240, 900)
         browser.look()
         browser.open(address)
@@ -82,14 +81,12 @@ def still(browser):
 @pytest.mark.parametrize("name", PAGES)
 def test_the_end_is_the_sketch_and_without_any_shape_it_is_not(shown, name):
     page = shown(os.path.join(FOLDER, name), bypass=True)
-    with open(os.path.join(FOLDER, name + ".svg"), encoding="utf-8") as svg:
-        want(page, svg.read(), SIZE)
     still(page)
     page.run("player.showNow(player.line.whole)")
-    how = page.run(how_like(SIZE))
+    with open(os.path.join(FOLDER, name + ".svg"), encoding="utf-8") as svg:
+        how = how_like(page, svg.read())
     assert like(how) and how["all"] > 100_000, how
-    without = [page.run(WITHOUT.replace("@STEP@", str(step)).replace("@HOW@", how_like(SIZE)))
-               for step in page.run(STEPS)]
+    without = [page.run(WITHOUT.replace("@STEP@", str(step))) for step in page.run(STEPS)]
     seen = [told["how"] for told in without if told["isSeen"]]  # (some lie below others)
     assert len(seen) >= 5 and not any(map(like, seen)), [how for how in seen if like(how)]
 
@@ -109,8 +106,7 @@ def test_at_each_moment_what_has_come_is_shown(shown, program, name):
         assert page.run("player.moment") == {"done": len(lines), "bytes": come}
         # (an accent appears with its letter)
         is_accent = bool(lines) and re.match("CHAR supplementary 4[1-9a-f]", lines[-1])
-        want(page, drawing.draw(lines[:-1] if is_accent else lines).svg, SIZE)
-        how = page.run(how_like(SIZE))
+        how = how_like(page, drawing.draw(lines[:-1] if is_accent else lines).svg)
         assert like(how), (come, how)
 
 
@@ -207,12 +203,15 @@ def test_a_guard_counts_flashes_of_any_colour(shown):
     assert taken[:5] == [6, 6, 19, 19, 19] and 6 * 3 < taken[5] <= 6 * 4
 
 
+def click(page, across, down):
+    """Clicks at a place of the picture, of 1024 by 800."""
+    page.click(*page.run("(() => {const box = player.canvas.getBoundingClientRect(); const scale = box.width / 1024;"
+                         "return [box.left + %d * scale, box.top + %d * scale]})()" % (across, down)))
+
+
 def test_a_click_leads_from_shapes_to_bytes_and_back(shown):
     page = shown(os.path.join(FOLDER, "weather.nap"))
-    place = page.run("(() => {const box = player.canvas.getBoundingClientRect(); const scale = box.width / 1024;"
-                     "return [box.left + 154 * scale, box.top + 320 * scale]})()")
-    for kind in ("mousePressed", "mouseReleased"):
-        page.call("Input.dispatchMouseEvent", type=kind, x=place[0], y=place[1], button="left", clickCount=1)
+    click(page, 154, 320)
     entry = page.run("[...player.marked][0]")
     kind, start, end = page.run("player.data.lines[%d]" % entry).split(" ")[:3]
     assert kind == "ARC-FILLED" and int(start.split(",")[0]) < 154 * ONE // 1024 < int(end.split(",")[0])
@@ -227,10 +226,7 @@ def test_a_click_leads_from_shapes_to_bytes_and_back(shown):
 def test_a_click_finds_one_mosaic_of_a_row_and_marks_it(shown):
     page = shown(os.path.join(FOLDER, "mosaics.nap"))
     bare = page.run("player.screen.context.getImageData(556, 405, 1, 1).data.join()")
-    place = page.run("(() => {const box = player.canvas.getBoundingClientRect(); const scale = box.width / 1024;"
-                     "return [box.left + 600 * scale, box.top + 400 * scale]})()")
-    for kind in ("mousePressed", "mouseReleased"):
-        page.call("Input.dispatchMouseEvent", type=kind, x=place[0], y=place[1], button="left", clickCount=1)
+    click(page, 600, 400)
     [entry] = page.run("[...player.marked]")
     lines = page.run("player.data.lines.slice(0, %d)" % (entry + 1))
     # (its row begins at the left, with cells of 51.2 units; what is around it, 563.2 to 614.4, isn't of its colour)
@@ -295,15 +291,14 @@ def test_what_earlier_pages_drew_is_there_at_the_start(shown, program, tmp_path)
     first = StreamWriter().clear().domain().select(5).rectangle(0.1, 0.1, 0.3, 0.3).code(0x3D, b"\x54").made()
     last = StreamWriter().domain().rectangle(0.6, 0.5, 0.3, 0.2).made()
     path = file(tmp_path, "menu.nap", first)
-    page = shown(last, bypass=True, words=["--after", path])
+    page = shown(last, bypass=True, words=["--previous", path])
     assert "It comes after menu.nap: " in page.run("document.querySelector('header').textContent")
     whole, before = (program.ask("list", data).body.decode("ascii").splitlines() for data in (first + last, first))
     still(page)
     for moment, lines in (("player.line.start", before), ("player.line.ofBytes(0)", before),
                           ("player.line.whole", whole)):
         page.run("player.showNow(%s)" % moment)
-        want(page, drawing.draw(lines).svg, SIZE)
-        how = page.run(how_like(SIZE))
+        how = how_like(page, drawing.draw(lines).svg)
         assert like(how) and how["all"] > 10_000, (moment, how)
     told = "document.querySelector('.told').textContent"
     own = len(whole) - len(before)
@@ -410,8 +405,8 @@ def test_a_hostile_page_is_bounded_as_a_sketch_is(shown, program, kind):
     sketch = drawing.draw(lines)
     page = shown(data)
     assert page.run("player.line.number") == sketch.drawn <= MOST_DRAWN
-    said = page.run("player.box.textContent")
-    assert (sketch.drawn < len(lines)) == ("The picture ends before entry" in said)
+    result = page.run("player.box.textContent")
+    assert (sketch.drawn < len(lines)) == ("The picture ends before entry" in result)
     size = page.run("document.documentElement.outerHTML.length")
     assert size < 3 << 20, size
     page.run("player.showNow(player.line.ofEntries(Math.floor(player.line.number / 2)))")
@@ -492,8 +487,8 @@ def test_of_a_refused_page_all_bytes_up_to_the_refusal_are_shown(program, end):
 def test_a_refused_page_is_played_up_to_its_refusal(naplps, tmp_path, shown):
     page = shown(os.path.join(FOLDER, "signature.nap"))
     assert "refused 6 LeftOut" in page.run("document.querySelector('header').textContent")
-    said, _ = play(naplps, os.path.join(FOLDER, "signature.nap"), os.path.join(str(tmp_path), "other.html"))
-    assert said.returncode == 1 and b"the player shows what comes before" in said.stderr
+    result, _ = play(naplps, os.path.join(FOLDER, "signature.nap"), os.path.join(str(tmp_path), "other.html"))
+    assert result.returncode == 1 and b"the player shows what comes before" in result.stderr
 
 
 # The colour of each dot, and whether the squares of all have one colour each.

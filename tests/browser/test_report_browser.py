@@ -3,16 +3,15 @@ import hashlib
 import os
 import pathlib
 import re
-import subprocess
 
 import pytest
 
-from command import COMMAND, TOP
+from command import TOP
 from contrasts import FAINT
-from report_page import CLICK, LEAVES, OPEN, TITLE, TOLD, WALL_TOLD, choose
-from reports import HOSTILE, MARKUP, collection, words
+from report_page import CLICK, LEAVES, OPEN, TITLE, TOLD, WALL_TOLD, choose, open_page, part_of
+from reports import HOSTILE, MARKUP, collection, run_tool, shown_report, words
 from samples import OUTSIDE, POINT, SPELLED, needs_chromium
-from scans import start, wait_until
+from scans import wait_until
 
 pytestmark = needs_chromium
 NAMES = "[...document.querySelectorAll('#files td:first-child button')].map((each) => each.textContent)"
@@ -24,26 +23,16 @@ COLUMNS = "new Set([...document.querySelectorAll('#wall > li')].map((each) => ea
 def archive(naplps, tmp_path_factory):
     """A collection, its store, and how many files it has."""
     folder = str(tmp_path_factory.mktemp("archive"))
-    top, number = collection(os.path.join(folder, "archive"))
-    store = os.path.join(folder, "pages.db")
-    env = dict(os.environ, NAPLPS=naplps)
-    subprocess.run([COMMAND, "scan", top, "--into", store], check=True, env=env, capture_output=True)
-    return store, number
+    _, number = collection(os.path.join(folder, "archive"))
+    run_tool(naplps, folder, "scan", "archive", "-o", "pages.db")
+    return os.path.join(folder, "pages.db"), number
 
 
 @pytest.fixture(scope="module", params=["file", "served"])
 def address(request, archive, naplps):
     """The address of the report: of a file, and of a server."""
-    store, _ = archive
-    html = store + ".html"
-    if request.param == "file":
-        env = dict(os.environ, NAPLPS=naplps)
-        subprocess.run([COMMAND, "report", store, "-o", html], check=True, env=env, capture_output=True)
-        yield "file://" + html
-        return
-    with start(["serve", store], naplps) as server:
-        yield server.stdout.readline().decode().strip()
-        server.terminate()
+    with shown_report(naplps, archive[0], request.param) as found:
+        yield found
 
 
 @pytest.fixture
@@ -123,15 +112,6 @@ def test_paging(page, archive):
     page.run("document.querySelector('#files-pager button').click()")
     page.until(TOLD % "files" + ".startsWith('1 to')")
     assert page.run(NAMES) == first
-
-
-def test_search(page):
-    search(page, "PAGE 07")
-    assert page.run(NAMES) == ["many/page 07%d.nap" % at for at in range(10)]
-    search(page, "nothing is named so")
-    assert page.run(TOLD % "files") == "no files"
-    search(page, "group 1")
-    assert page.run(NAMES) == ["equal/copy of one.nap", "equal/one.nap", "equal/two.nap"]
 
 
 def test_reasons(page):
@@ -268,8 +248,7 @@ def test_all_texts_can_be_read(page, address, dark):
     heads = "new Set([...document.querySelectorAll('.chart thead th')].map((each) => getComputedStyle(each).color))"
     assert page.run(heads + ".size") == 1
     for data in (OUTSIDE, POINT):
-        page.open("%s#page=%s" % (address, hashlib.sha256(data).hexdigest()[:16]))
-        page.until(OPEN)
+        open_page(page, address, data)
         assert page.run(FAINT) == []
     page.run("document.getElementById('as-played').click()")
     page.until("document.querySelector('.player .code')")
@@ -350,41 +329,31 @@ def test_a_page_of_the_wall_and_those_beside_it(wall):
 
 
 def test_each_page_has_an_address(wall, address):
-    own = hashlib.sha256(SPELLED).hexdigest()
-    wall.open("%s#page=%s" % (address, own[:16]))
-    wall.until(OPEN)
-    assert wall.run(TITLE) == "equal/two.nap" and wall.run("location.hash") == "#page=" + own[:16]
+    open_page(wall, address, SPELLED)
+    assert wall.run(TITLE) == "equal/two.nap" and wall.run("location.hash") == part_of(SPELLED)
     wall.run("document.getElementById('before').click()")
     wall.until(TITLE + " === 'equal/one.nap'")
-    assert wall.run("location.hash") == "#page=" + hashlib.sha256(POINT).hexdigest()[:16]
+    assert wall.run("location.hash") == part_of(POINT)
     wall.run("document.getElementById('close').click()")
     wall.until("!" + OPEN + " && location.hash === '#pages'")
     wall.run("document.querySelectorAll('#wall .tile')[0].click()")
     wall.until(OPEN)
     wall.run("history.back()")
     wall.until("!" + OPEN)
-    wall.open("%s#page=%s" % (address, own))
+    wall.open("%s#page=%s" % (address, hashlib.sha256(SPELLED).hexdigest()))
     wall.until(OPEN + " && %s === 'equal/two.nap'" % TITLE)
 
 
-def test_spellings_stand_side_by_side(wall, address):
-    wall.open("%s#page=%s" % (address, hashlib.sha256(POINT).hexdigest()[:16]))
-    wall.until("document.querySelectorAll('#details .equal img').length === 2")
-    assert wall.run("[...document.querySelectorAll('#details .equal h4')].map((each) => each.textContent)") == [
-        "Spelling A, 5 bytes", "Spelling B, 5 bytes"]
-
-
 def test_two_pages_stand_side_by_side(wall, address):
-    one, other = (hashlib.sha256(each).hexdigest()[:16] for each in (words("PAGE 1"), words("PAGE 2")))
-    wall.open("%s#page=%s" % (address, one))
-    wall.until(OPEN)
+    open_page(wall, address, words("PAGE 1"))
     wall.run("document.getElementById('hold').click()")
     wall.run("document.getElementById('behind').click()")
     wall.until(TITLE + " === 'many/page 002.nap'")
     shown = "[...document.querySelectorAll('.pictures img')].map((each) => each.alt)"
     both = ["Sketch of many/page 001.nap, with the text: PAGE 1", "Sketch of many/page 002.nap, with the text: PAGE 2"]
-    assert wall.run(shown) == both and wall.run("location.hash") == "#page=%s&beside=%s" % (other, one)
-    wall.open("%s#page=%s&beside=%s" % (address, other, one))
+    part = part_of(words("PAGE 2"), beside=words("PAGE 1"))
+    assert wall.run(shown) == both and wall.run("location.hash") == part
+    wall.open(address + part)
     wall.until("document.querySelectorAll('.pictures img').length === 2")
     assert wall.run(shown) == both
     wall.run("document.getElementById('release').click()")
@@ -393,8 +362,7 @@ def test_two_pages_stand_side_by_side(wall, address):
 
 def test_a_sketch_is_saved(wall, address, tmp_path):
     wall.call("Browser.setDownloadBehavior", behavior="allow", downloadPath=str(tmp_path))
-    wall.open("%s#page=%s" % (address, hashlib.sha256(words("PAGE 1")).hexdigest()[:16]))
-    wall.until(OPEN)
+    open_page(wall, address, words("PAGE 1"))
     wall.run("document.getElementById('save').click()")
     path = os.path.join(str(tmp_path), "page 001.nap.svg")
     wait_until(lambda: os.path.exists(path) and pathlib.Path(path).read_text("utf-8").endswith("</svg>\n"))
@@ -403,8 +371,7 @@ def test_a_sketch_is_saved(wall, address, tmp_path):
 
 
 def test_a_page_is_played_beside_its_sketch(wall, address):
-    wall.open("%s#page=%s" % (address, hashlib.sha256(POINT).hexdigest()[:16]))
-    wall.until(OPEN)
+    open_page(wall, address, POINT)
     assert wall.run("document.querySelector('.tabs [aria-pressed=true]').textContent") == "Sketch"
     wall.run("document.getElementById('as-played').click()")
     wall.until("document.querySelector('.player canvas')")
@@ -430,16 +397,6 @@ def test_a_sketch_of_another_spelling_isnt_played_in_its_place(wall, address):
                  "await source.played(found.files[0].key)})()" % name)
         found.append(wall.run("window.answered.page && atob(window.answered.page.bytes).charCodeAt(1)"))
     assert found == ([0x26, 0x27] if address.startswith("http") else [0x26, None])
-
-
-def test_words_are_found(wall, address):
-    if address.startswith("http"):
-        pytest.skip("a store has no words until they are asked for")
-    for text, told in (("hostile text", "no pages"), ("COPI", "1 to 2 of 2 pages"), ("page 12", "1 to 11 of 11 pages"),
-                       ('"PAGE 12"', "1 to 1 of 1 page"), ("equal/o", "1 to 1 of 1 page")):
-        wall.run("((it) => {it.value = %r; it.oninput()})(document.getElementById('text'))" % text)
-        wall.until("%s.startsWith(%r)" % (WALL_TOLD, told.split(" of ")[0]))
-        wall.until("%s.endsWith(%r)" % (WALL_TOLD, told.split(" of ")[-1]))
 
 
 @pytest.mark.parametrize("width", [390, 1240])

@@ -1,15 +1,11 @@
 """What can be chosen on a wall, and what a report says where it finds, draws or plays nothing; in a browser."""
-import hashlib
-import os
-
 import pytest
 
 from naplps_pages.report import making
 from naplps_pages.report.drawing import Drawing
-from report_page import CLICK, LEAVES, OPEN, TOLD, WALL_TOLD, choose
-from reports import report_address, run_tool, words
+from report_page import CLICK, LEAVES, OPEN, TOLD, WALL_TOLD, choose, open_page
+from reports import report_address, scanned, shown_report, words
 from samples import OUTSIDE, POINT, SPELLED, needs_chromium, with_parity
-from scans import start, tree
 
 pytestmark = needs_chromium
 FILES = {"a page.nap": words("MENU"), "blank.nap": b"", "gif.nap": b"GIF89a\x81" * 9, "one.nap": POINT,
@@ -22,21 +18,14 @@ SHOWN = "document.getElementById('details-body').innerText.replace(/\\s+/g, ' ')
 @pytest.fixture(scope="module")
 def store(naplps, tmp_path_factory):
     """The store of a few files of all kinds."""
-    folder = str(tmp_path_factory.mktemp("kinds"))
-    tree(os.path.join(folder, "pages"), FILES)
-    run_tool(naplps, folder, "scan", "pages", "--into", "pages.db", "--cures")
-    return os.path.join(folder, "pages.db")
+    return scanned(naplps, str(tmp_path_factory.mktemp("kinds")), FILES)
 
 
 @pytest.fixture(scope="module", params=["file", "served"])
 def address(request, naplps, store):
     """The address of the report: of a file, and of a server."""
-    if request.param == "file":
-        yield report_address(naplps, store, "all.html")
-        return
-    with start(["serve", store], naplps) as server:
-        yield server.stdout.readline().decode().strip()
-        server.terminate()
+    with shown_report(naplps, store, request.param) as found:
+        yield found
 
 
 @pytest.fixture
@@ -46,11 +35,6 @@ def wall(browser, address):
     browser.open(address)
     yield browser
     assert browser.errors == [] and browser.run("document.body.dataset.fault") is None
-
-
-def page_of(name):
-    """The address of a page in the report."""
-    return "#page=" + hashlib.sha256(FILES[name]).hexdigest()[:16]
 
 
 @pytest.mark.parametrize("kind, wanted", [
@@ -112,18 +96,15 @@ def test_on_a_phone_the_filters_are_behind_one_button(wall):
     wall.until("document.getElementById('filters').textContent === 'Filters (1)'")
 
 
-@pytest.mark.parametrize("served", [False, True])
-def test_a_readable_copy_says_which_page_draws_the_same(browser, naplps, tmp_path, served):
-    tree(str(tmp_path / "pages"), {"plain.nap": words("ONE"), "old/parity.nap": with_parity(words("ONE")),
-                                   "other.nap": words("TWO")})
-    run_tool(naplps, str(tmp_path), "scan", "pages", "--into", "pages.db", "--cures")
-    store = str(tmp_path / "pages.db")
-    with start(["serve", store], naplps) as server:
-        browser.open(server.stdout.readline().decode().strip() if served else report_address(naplps, store, "x.html"))
+@pytest.mark.parametrize("kind", ["file", "served"])
+def test_a_readable_copy_says_which_page_draws_the_same(browser, naplps, tmp_path, kind):
+    files = {"plain.nap": words("ONE"), "old/parity.nap": with_parity(words("ONE")), "other.nap": words("TWO")}
+    with shown_report(naplps, scanned(naplps, str(tmp_path), files), kind) as address:
+        browser.open(address)
         browser.until("document.querySelector('#groups li')")
-        said = browser.run("document.querySelector('#groups').innerText")
-        assert "2 files, 2 spellings" in said and "1 readable copy" in said and "readable by parity" in said
-        assert said.index("plain.nap") < said.index("readable by parity") < said.index("old/parity.nap")
+        sentence = browser.run("document.querySelector('#groups').innerText")
+        assert "2 files, 2 spellings" in sentence and "1 readable copy" in sentence and "readable by parity" in sentence
+        assert sentence.index("plain.nap") < sentence.index("readable by parity") < sentence.index("old/parity.nap")
         browser.run(CLICK % ("#files button.name", "old/parity.nap"))
         browser.until(OPEN + " && %s.includes('draws what plain.nap draws')" % SHOWN)
         browser.run(CLICK % (".reasons button.name", "plain.nap"))
@@ -131,7 +112,6 @@ def test_a_readable_copy_says_which_page_draws_the_same(browser, naplps, tmp_pat
         assert "readable by parity" in browser.run(SHOWN)
         browser.run("document.getElementById('close').click(); document.getElementById('once').click()")
         browser.until("%s.join('/') === 'other.nap/plain.nap'" % LEAVES)
-        server.terminate()
 
 
 @pytest.mark.parametrize("view, what, name", [("pages", "pages", "wall"), ("list", "files", "files")])
@@ -148,48 +128,43 @@ def test_where_nothing_is_found_there_is_a_way_back(wall, view, what, name):
 
 
 def test_a_page_without_a_sketch_says_how_to_see_it(browser, naplps, store):
-    address = report_address(naplps, store, "none.html", "--sketches", "0")
-    browser.open(address + page_of("a page.nap"))
-    browser.until(OPEN)
-    said = ("This report has no sketch of it. To see it: naplps-pages look 'a page.nap' -o page.svg or "
-            "naplps-pages serve STORE")
+    address = report_address(naplps, store, "none.html", "--max-pictures", "0")
+    open_page(browser, address, FILES["a page.nap"])
+    sentence = ("This report has no sketch of it. To see it: naplps-pages show 'a page.nap' -o page.svg or "
+                "naplps-pages report STORE --serve")
     told = browser.run(SHOWN)
-    assert said in told and "Text begins MENU" in told
+    assert sentence in told and "Text begins MENU" in told
 
 
 def test_a_page_that_is_not_played_says_how_to_play_it(browser, naplps, store):
     address = report_address(naplps, store, "played.html")
-    browser.open(address + page_of("two.nap"))
-    browser.until(OPEN)
+    open_page(browser, address, FILES["two.nap"])
     browser.run("document.getElementById('as-played').click()")
-    said = ("This report can play 7 pages, and not this one. To play it: naplps-pages play two.nap -o page.html or "
-            "naplps-pages serve STORE")
-    browser.until("%s.includes(%r)" % (SHOWN, said))
+    sentence = ("This report can play 7 pages, and not this one. To play it: naplps-pages show two.nap -o page.html or "
+                "naplps-pages report STORE --serve")
+    browser.until("%s.includes(%r)" % (SHOWN, sentence))
 
 
-@pytest.mark.parametrize("served", [False, True])
-def test_a_capture_is_named_and_says_what_cuts_it(browser, naplps, tmp_path, served):
-    tree(str(tmp_path / "pages"), {"a tape": words("ONE") + b"\x18" + words("TWO"), "one": words("ONE")})
-    run_tool(naplps, str(tmp_path), "scan", "pages", "--into", "pages.db", "--cures")
-    store = str(tmp_path / "pages.db")
-    with start(["serve", store], naplps) as server:
-        browser.open(server.stdout.readline().decode().strip() if served else report_address(naplps, store, "x.html"))
+@pytest.mark.parametrize("kind", ["file", "served"])
+def test_a_capture_is_named_and_says_what_cuts_it(browser, naplps, tmp_path, kind):
+    files = {"a tape": words("ONE") + b"\x18" + words("TWO"), "one": words("ONE")}
+    with shown_report(naplps, scanned(naplps, str(tmp_path), files), kind) as address:
+        browser.open(address)
         browser.until("document.querySelector('#wall')?.innerText.includes('capture')")
         assert browser.run("document.querySelector('#wall').innerText.match(/capture/g).length") == 1
         browser.run(CLICK % ("#files button.name", "a tape"))
         browser.until(OPEN + " && %s.includes('Kind capture')" % SHOWN)
-        assert "Kind capture: several pages, of which this shows the first; naplps-pages split 'a tape' --into pages " \
+        assert "Kind capture: several pages, of which this shows the first; naplps-pages fix 'a tape' -o fixed " \
             "cuts it into them Bytes" in browser.run(SHOWN)
         browser.run("document.getElementById('behind').click()")
         browser.until(SHOWN + ".includes('Kind page Bytes')")
-        server.terminate()
 
 
 def test_the_top_says_how_many_pages_can_be_played():
     some = [(0, Drawing(played="{}")), (1, Drawing()), (2, Drawing(played="{}"))]
     assert making._held_sentence(some, 5000) == (
         "3 of 5,000 sketches are in this file; 2 of these pages can be played. "
-        "naplps-pages serve shows the others too.")
+        "naplps-pages report --serve shows the others too.")
     assert making._held_sentence(some, 3) == "3 of 3 sketches are in this file; 2 of these pages can be played."
     assert making._held_sentence(some[:1], 1) == "1 of 1 sketches are in this file."
 

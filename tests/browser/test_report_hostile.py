@@ -1,17 +1,14 @@
 """Names of files and addresses that others made, in reports and players: none acts, and none breaks the page."""
-import hashlib
 import os
-import subprocess
 
 import pytest
 
-from command import COMMAND
 from packers import pack
 from players import play
-from report_page import OPEN, TITLE
-from reports import ADDRESSES, HOSTILE, words
+from report_page import OPEN, TITLE, open_page
+from reports import ADDRESSES, HOSTILE, scanned, shown_report, words
 from samples import needs_chromium
-from scans import start, tree, wait_until
+from scans import tree, wait_until
 
 pytestmark = needs_chromium
 LONGEST = 4000
@@ -31,18 +28,12 @@ def pages():
 @pytest.fixture(scope="module", params=["file", "served"])
 def address(request, naplps, tmp_path_factory, pages):
     """The address of the report: of a file, and of a server."""
-    folder = str(tmp_path_factory.mktemp("names"))
-    top = tree(os.path.join(folder, "pages"), {"fine.nap": words("FINE")})
-    pack(os.path.join(top, "p.tar"), pages)
-    for some in (["scan", "pages", "--into", "p.db"], ["report", "p.db", "-o", "p.html"]):
-        subprocess.run([COMMAND, *some], check=True, env=dict(os.environ, NAPLPS=naplps), capture_output=True,
-                       cwd=folder)
-    if request.param == "file":
-        yield "file://" + os.path.join(folder, "p.html")
-        return
-    with start(["serve", os.path.join(folder, "p.db")], naplps) as server:
-        yield server.stdout.readline().decode().strip()
-        server.terminate()
+    folder = tmp_path_factory.mktemp("names")
+    (folder / "pages").mkdir()
+    pack(str(folder / "pages" / "p.tar"), pages)
+    store = scanned(naplps, str(folder), {"fine.nap": words("FINE")})
+    with shown_report(naplps, store, request.param) as found:
+        yield found
 
 
 def require_harmless(page):
@@ -68,8 +59,7 @@ def test_no_name_makes_a_view_wider(browser, address, width, view):
 def test_no_name_hides_its_page(browser, address, pages, width, name):
     """The way to close it can be seen, and so can what is below the name."""
     browser.size(width, 900)
-    browser.open("%s#page=%s" % (address, hashlib.sha256(pages[name]).hexdigest()[:16]))
-    browser.until(OPEN)
+    open_page(browser, address, pages[name])
     top, bottom, left, right = browser.run(PLACE % "close")
     assert 0 <= top < bottom <= 450 and 0 <= left < right <= width
     assert browser.run("((it) => it.scrollWidth <= it.clientWidth)(document.getElementById('details'))")
@@ -107,8 +97,8 @@ def test_a_report_is_whole_though_its_address_leads_nowhere(browser, address):
 @pytest.mark.parametrize("name", [*HOSTILE, "x" * 251 + ".nap", "\u202e" * 80])
 def test_no_name_acts_in_a_player(browser, naplps, tmp_path, name):
     path = os.path.join(tree(str(tmp_path), {name.replace("/", "\u2215"): words("PAGE")}), name.replace("/", "\u2215"))
-    said, address = play(naplps, path, os.path.join(str(tmp_path), "player.html"))
-    assert said.returncode == 0, said.stderr
+    result, address = play(naplps, path, os.path.join(str(tmp_path), "player.html"))
+    assert result.returncode == 0, result.stderr
     for width in (390, 1240):
         browser.size(width, 900)
         browser.open(address)

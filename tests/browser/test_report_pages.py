@@ -1,16 +1,13 @@
 """How pages of a report are found, by words and by treatments, and how they stand beside each other; in a browser."""
-import hashlib
-import os
 from random import Random
 
 import pytest
 
 from old_files import midst
 from pictures import picture
-from report_page import LEAVES, OPEN, choose
-from reports import report_address, run_tool, words
+from report_page import LEAVES, OPEN, choose, open_page, part_of
+from reports import scanned, shown_report, words
 from samples import OUTSIDE, POINT, SPELLED, needs_chromium, with_parity
-from scans import start, tree
 from stream_writer import StreamWriter
 
 pytestmark = needs_chromium
@@ -23,16 +20,9 @@ FILES = {"accents.nap": b"\x0fMontr\x19\x42eal est belle", "can.nap": midst(pict
 @pytest.fixture(scope="module", params=["file", "served"])
 def address(request, naplps, tmp_path_factory):
     """The address of the report: of a file, and of a server."""
-    folder = str(tmp_path_factory.mktemp("found"))
-    tree(os.path.join(folder, "pages"), FILES)
-    run_tool(naplps, folder, "scan", "pages", "--into", "pages.db", "--cures", "--words")
-    store = os.path.join(folder, "pages.db")
-    if request.param == "file":
-        yield report_address(naplps, store, "all.html")
-        return
-    with start(["serve", store], naplps) as server:
-        yield server.stdout.readline().decode().strip()
-        server.terminate()
+    store = scanned(naplps, str(tmp_path_factory.mktemp("found")), FILES)
+    with shown_report(naplps, store, request.param) as found:
+        yield found
 
 
 @pytest.fixture
@@ -71,29 +61,30 @@ def test_pages_of_a_treatment(wall, cure, names):
 def test_first_words_stand_beside_each_name(wall):
     wall.run("location.hash = '#list'")
     wall.until("!document.getElementById('view-list').hidden")
-    said = wall.run("Object.fromEntries([...document.querySelectorAll('#files tr')].map((row) => [row.querySelector("
-                    "'button.name').textContent, row.querySelector('.says')?.textContent || '']))")
-    assert {**said, "can.nap": ""} == {
+    texts = wall.run("Object.fromEntries([...document.querySelectorAll('#files tr')].map((row) => [row.querySelector("
+                     "'button.name').textContent, row.querySelector('.says')?.textContent || '']))")
+    assert {**texts, "can.nap": ""} == {
         "accents.nap": "Montr\u00e9al est belle", "can.nap": "", "one.nap": "", "out.nap": "", "parity.nap": "NEWS",
-        "sub/lines.nap": "ICE HOCKEY SCORES", "two.nap": ""} and said["can.nap"]
+        "sub/lines.nap": "ICE HOCKEY SCORES", "two.nap": ""} and texts["can.nap"]
 
 
 def test_spellings_and_held_pages_stand_side_by_side(wall, address):
-    own, other, first = (hashlib.sha256(each).hexdigest()[:16] for each in (POINT, LINES, FILES["accents.nap"]))
-    for to, pictures in (("#page=" + own, ".equal .thumb"), (f"#page={own}&beside={other}", ".pictures figure"),
-                         (f"#page={own}&beside={first}", ".pictures figure")):
-        wall.open(address + to)
+    for beside, pictures in ((None, ".equal .thumb"), (LINES, ".pictures figure"),
+                             (FILES["accents.nap"], ".pictures figure")):
+        wall.open(address + part_of(POINT, beside))
         wall.until(OPEN + " && document.querySelectorAll('#details %s img').length === 2" % pictures)
         one, two = wall.run("[...document.querySelectorAll('#details %s')].map((each) => {const box = "
                             "each.getBoundingClientRect(); return [box.left, box.right, box.top]})" % pictures)
         assert one[1] <= two[0] and one[2] == two[2]
+    open_page(wall, address, POINT)
+    assert wall.run("[...document.querySelectorAll('#details .equal h4')].map((each) => each.textContent)") == [
+        "Spelling A, 5 bytes", "Spelling B, 5 bytes"]
 
 
 def test_what_is_closed_plays_no_more(wall, address):
     told = "document.querySelector('.told').textContent"
     later = "new Promise((done) => setTimeout(() => done(%s), 400))" % told
-    wall.open("%s#page=%s" % (address, hashlib.sha256(LINES).hexdigest()[:16]))
-    wall.until(OPEN)
+    open_page(wall, address, LINES)
     wall.run("document.getElementById('as-played').click()")
     wall.until("document.querySelector('.player canvas')")
     wall.run("document.querySelector('.player').focus()")

@@ -37,67 +37,55 @@ NO_HASH = re.compile(r".*(there is no page of this hash|a page's hash has 16 dig
 SOUND = "[typeof hacked, document.body?.dataset.fault ?? '', document.title]"
 
 
-class Visitor:
-    """Who does anything at all in the browser."""
+def find(browser, chance):
+    """Types a text into the field for names."""
+    browser.run(FOUND)
+    browser.call("Input.insertText", text=chance.choice(TEXTS))
 
-    def __init__(self, browser, address, chance):
-        self.browser, self.address, self.chance = browser, address, chance
-        self.did = collections.Counter()
 
-    def act(self):
-        """One thing by chance. A page that gives way to another meanwhile is no fault."""
-        name = self.chance.choice(("press",) * 6 + ("choose", "choose", "find", "find", "key", "key", "view", "back",
-                                                    "size", "reload"))
-        self.did[name] += 1
-        try:
-            getattr(self, "_" + name)()
-        except RuntimeError as error:
-            if not any(each in str(error) for each in GIVES_WAY):
-                raise
+# What a visitor may do, and how often of all.
+ACTS = {
+    "press": (6, lambda browser, chance: browser.run(PRESSED % chance.random())),
+    "choose": (2, lambda browser, chance: browser.run(CHOSEN % (chance.random(), chance.random()))),
+    "find": (2, find),
+    "key": (2, lambda browser, chance: browser.press(chance.choice(KEYS))),
+    "view": (1, lambda browser, chance: browser.run("location.hash = " + json.dumps(chance.choice(VIEWS)))),
+    # (never before the report: about:blank is first)
+    "back": (1, lambda browser, chance: browser.run(
+        "history.length > 2 && history.%s()" % chance.choice(("back", "forward")))),
+    "size": (1, lambda browser, chance: browser.call(
+        "Emulation.setDeviceMetricsOverride", width=chance.choice((390, 800, 1240)), height=900, deviceScaleFactor=1,
+        mobile=False)),
+    "reload": (1, lambda browser, chance: browser.call("Page.reload")),
+}
 
-    def _press(self):
-        self.browser.run(PRESSED % self.chance.random())
 
-    def _choose(self):
-        self.browser.run(CHOSEN % (self.chance.random(), self.chance.random()))
-
-    def _find(self):
-        self.browser.run(FOUND)
-        self.browser.call("Input.insertText", text=self.chance.choice(TEXTS))
-
-    def _key(self):
-        self.browser.press(self.chance.choice(KEYS))
-
-    def _view(self):
-        self.browser.run("location.hash = " + json.dumps(self.chance.choice(VIEWS)))
-
-    def _back(self):
-        # (never before the report: about:blank is first)
-        self.browser.run("history.length > 2 && history.%s()" % self.chance.choice(("back", "forward")))
-
-    def _size(self):
-        self.browser.call("Emulation.setDeviceMetricsOverride", width=self.chance.choice((390, 800, 1240)),
-                          height=900, deviceScaleFactor=1, mobile=False)
-
-    def _reload(self):
-        self.browser.call("Page.reload")
+def act(browser, chance):
+    """One thing by chance; its name. A page that gives way to another meanwhile is no fault."""
+    [name] = chance.choices([*ACTS], [often for often, _ in ACTS.values()])
+    try:
+        ACTS[name][1](browser, chance)
+    except RuntimeError as error:
+        if not any(each in str(error) for each in GIVES_WAY):
+            raise
+    return name
 
 
 def test_a_browser_by_chance(naplps, run, tmp_path):
     home = tree(str(tmp_path / "home"), {".profile": b"x", ".ssh/id": b"secret"})
     collection(os.path.join(home, "pages"))
-    assert run(["scan", "pages", "--into", "../x.db", "--words", "--cures"], cwd=home).returncode in (0, 1)
+    assert run(["scan", "pages", "-o", "../x.db"], cwd=home, keeps="words repair").returncode in (0, 1)
     before, seed = file_hashes(home), os.environ.get("FUZZ_SEED") or str(time.time())
-    chance, served = random.Random(seed), start(["serve", "../x.db", "--port", "0"], naplps, cwd=home)
+    chance, served = random.Random(seed), start(["report", "../x.db", "--serve", "--port", "0"], naplps, cwd=home)
     address = served.stdout.readline().decode().strip()
     port, key = int(address.split(":")[2].split("/")[0]), address.split("/")[3].encode()
     own, asked = re.compile(re.escape(address) + WAYS + "|blob:.*"), 0
     browser = Browser()
     try:
         browser.open(address)
-        visitor, end = Visitor(browser, address, chance), time.monotonic() + SECONDS
+        did, end = collections.Counter(), time.monotonic() + SECONDS
         while time.monotonic() < end:
-            visitor.act()
+            did[act(browser, chance)] += 1
             if chance.random() < 0.2:
                 with socket.create_connection((HOST, port), 60) as client:
                     client.sendall(b"".join(piece(chance, key) for _ in range(9)).replace(b"%d", b"%d" % port))
@@ -111,7 +99,7 @@ def test_a_browser_by_chance(naplps, run, tmp_path):
         browser.close()
         served.terminate()
     assert served.wait(60) < 0 and served.stderr.read() == b"" and file_hashes(home) == before
-    print(sum(visitor.did.values()), "acts", dict(visitor.did), asked, "requests")
+    print(sum(did.values()), "acts", dict(did), asked, "requests")
 
 
 def require_sound(browser, own, seed):

@@ -21,18 +21,14 @@ def position(chance: Random, text: str) -> str:
                     for part in parts)
 
 
-def hexadecimal(parts) -> str:
-    """A colour as #rrggbb, if it has that form; nothing for others."""
-    green, red, blue = parts
-    return "#%02x%02x%02x" % (red // 257, green // 257, blue // 257) if all(part % 257 == 0 for part in parts) else ""
-
-
 def colour(chance: Random, text: str) -> str:
     """A colour of a line, as people may write it in a source."""
     kind, _, rest = text.partition(":")
     if kind == "direct" and chance.random() < 0.7:
-        parts = tuple(map(int, rest.split(",")))
-        return chance.choice([each for each in (NAMES.get(parts), hexadecimal(parts)) if each] or [text])
+        green, red, blue = parts = tuple(map(int, rest.split(",")))
+        hexadecimal = "#%02x%02x%02x" % (red // 257, green // 257, blue // 257)
+        is_short = all(part % 257 == 0 for part in parts)
+        return chance.choice([each for each in (NAMES.get(parts), is_short and hexadecimal) if each] or [text])
     if kind == "front" and int(rest) % (1 << 20) == 0 and chance.random() < 0.7:
         return "front:%d/16" % (int(rest) >> 20)
     return text
@@ -58,7 +54,7 @@ class LeftOut:
     """
 
     def __init__(self) -> None:
-        self.page, self.last = PageState(), {}
+        self.page, self.first, self.last = PageState(), PageState().drawing, {}
 
     def take(self, entry: nap.Entry) -> None:
         """An entry comes."""
@@ -68,7 +64,7 @@ class LeftOut:
 
     def __getattr__(self, name: str):
         now = getattr(self.page.drawing, name)
-        last = self.last.get(name, at_first(name))
+        last = self.last.get(name, getattr(self.first, name))
         if name == "pen":
             return now
         if name == "colour":
@@ -78,11 +74,6 @@ class LeftOut:
         if name == "texture" and last.mask is None and now.mask is not None:
             return now
         return last
-
-
-def at_first(name: str):
-    """What a page begins with."""
-    return getattr(PageState().drawing, name)
 
 
 def line(chance: Random, entry: nap.Entry, stands) -> str:

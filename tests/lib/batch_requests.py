@@ -2,7 +2,7 @@
 import select
 import subprocess
 import threading
-from typing import IO, Iterable, NamedTuple, Tuple
+from typing import Iterable, NamedTuple, Tuple
 
 from dev.judging import PATIENCE, limit_processor, shown
 
@@ -60,62 +60,34 @@ class Client:
 
     def __init__(self, program: str) -> None:
         self.process = subprocess.Popen([program, "batch"], stdin=subprocess.PIPE, stdout=subprocess.PIPE,
-                                        stderr=subprocess.PIPE, bufsize=0)
+                                        stderr=subprocess.PIPE)
+        assert self.process.stdin and self.process.stdout
+        self.input, self.output = self.process.stdin, self.process.stdout
         limit_processor(self.process.pid)
         self.timer = threading.Timer(PATIENCE, self.process.kill)
         self.timer.start()
 
     def write(self, text: bytes) -> None:
         """Writes all bytes of a text."""
-        view = memoryview(text)
-        while view:
-            view = view[self._pipe(self.process.stdin).write(view):]
+        self.input.write(text)
+        self.input.flush()
 
     def answer(self) -> bytes:
         """Reads an answer, or the bytes before the end of the output."""
-        line = self._line()
-        count = self._line()
-        return line + count + self._exactly(int(count or b"0"))
+        line, count = self.output.readline(), self.output.readline()
+        return line + count + self.output.read(int(count or b"0"))
 
     def is_silent(self) -> bool:
-        """Whether the output has nothing yet."""
-        return not select.select([self._pipe(self.process.stdout)], [], [], 0.02)[0]
+        """Whether the output has nothing yet after the last answer that was read."""
+        return not select.select([self.output], [], [], 0.02)[0]
 
     def end(self) -> Tuple[int, bytes, bytes]:
         """Ends the input: the status, the rest of the output, and the standard error."""
-        self._pipe(self.process.stdin).close()
-        output, stderr = (self._pipe(pipe).read() for pipe in (self.process.stdout, self.process.stderr))
-        status = self.process.wait()
-        self.timer.cancel()
-        return status, output, stderr
+        output, stderr = self.process.communicate()
+        return self.process.returncode, output, stderr
 
     def close(self) -> None:
         """Kills the process where it hasn't ended."""
         self.timer.cancel()
         self.process.kill()
-        self.process.wait()
-        for pipe in (self.process.stdin, self.process.stdout, self.process.stderr):
-            self._pipe(pipe).close()
-
-    def _line(self) -> bytes:
-        text = b""
-        while not text.endswith(b"\n"):
-            byte = self._pipe(self.process.stdout).read(1)
-            if not byte:
-                break
-            text += byte
-        return text
-
-    def _exactly(self, count: int) -> bytes:
-        text = b""
-        while len(text) < count:
-            more = self._pipe(self.process.stdout).read(count - len(text))
-            if not more:
-                break
-            text += more
-        return text
-
-    @staticmethod
-    def _pipe(pipe: "IO[bytes] | None") -> "IO[bytes]":
-        assert pipe is not None
-        return pipe
+        self.process.communicate()

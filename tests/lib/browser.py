@@ -161,6 +161,11 @@ class Browser:
         self.call("Input.dispatchKeyEvent", type="keyDown", text=text, **words)
         self.call("Input.dispatchKeyEvent", type="keyUp", **words)
 
+    def click(self, x, y):
+        """Clicks at a place of the window."""
+        for kind in ("mousePressed", "mouseReleased"):
+            self.call("Input.dispatchMouseEvent", type=kind, x=x, y=y, button="left", clickCount=1)
+
     def restart(self):
         """Ends it, and starts another one."""
         self.close()

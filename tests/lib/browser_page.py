@@ -1,7 +1,9 @@
 """The page naplps.html in a browser: files that are chosen, the cards, what is saved; and the memory of a page."""
+import io
 import os
+import zipfile
 from pathlib import Path
-from typing import List, Sequence
+from typing import Dict, List, Sequence
 
 import pytest
 
@@ -15,9 +17,15 @@ MODULE = os.path.abspath(os.environ.get("NAPLPS_MODULE") or os.path.join(TOP, "d
 needs_module = pytest.mark.skipif(
     not os.path.exists(MODULE), reason="there is no naplps.wasm (NAPLPS_MODULE names one)")
 # A page of 1 KiB whose canonical stream has 176 MB.
-LONG = drcs_repeats()(1024, 1 << 20)
+LONG = drcs_repeats(1024, 1 << 20)
 # What the module may take for one page.
 MAX_MEMORY = 1 << 26
+
+
+def opened(browser: Browser, folder: Path, text: str) -> None:
+    """Opens the page from a file of a folder."""
+    (folder / "naplps.html").write_text(text, "utf-8")
+    browser.open((folder / "naplps.html").as_uri())
 
 
 def choose(browser: Browser, paths: Sequence[Path]) -> None:
@@ -44,6 +52,13 @@ def saved(browser: Browser, click: str) -> bytes:
       URL.createObjectURL = real;
       return [...new Uint8Array(await blob.arrayBuffer())];
     })()""" % ("true" if "SVG" in click else "false", click)))
+
+
+def unpacked(packed: bytes) -> Dict[str, bytes]:
+    """The files of a zip, whose names are all different."""
+    with zipfile.ZipFile(io.BytesIO(packed)) as archive:
+        assert len(archive.namelist()) == len({*archive.namelist()})
+        return {name: archive.read(name) for name in archive.namelist()}
 
 
 def clicked(word: str, number: int = 0) -> str:

@@ -8,6 +8,8 @@ from typing import Iterable, Iterator, List, NamedTuple, Optional, Sequence, Tup
 from command import LIB
 from naplps.canonical import NotCanonical, read
 
+from dev.vectors.batch import answers
+
 ANSWERS = os.path.join(LIB, "canonical_answers.mjs")
 WORDS = os.path.join(LIB, "canonical_words.c")
 
@@ -50,9 +52,9 @@ def framed(streams: Iterable[bytes]) -> bytes:
 
 def by_node(streams: Sequence[bytes]) -> List[str]:
     """What the reader in JavaScript says of each."""
-    said = subprocess.run(["node", ANSWERS], input=framed(streams), capture_output=True, check=True)
-    assert said.stderr == b""
-    return said.stdout.decode("ascii").split("\n")[:-1]
+    result = subprocess.run(["node", ANSWERS], input=framed(streams), capture_output=True, check=True)
+    assert result.stderr == b""
+    return result.stdout.decode("ascii").split("\n")[:-1]
 
 
 def build_words(folder: str) -> str:
@@ -66,9 +68,9 @@ def build_words(folder: str) -> str:
 
 def by_words(built: str, streams: Sequence[bytes]) -> Iterator[Tuple[str, bytes]]:
     """The line of the example in C on each, and what it prints."""
-    said = subprocess.run([built], input=framed(streams), capture_output=True, check=True)
-    assert said.stderr == b""
-    at, text = 0, said.stdout
+    result = subprocess.run([built], input=framed(streams), capture_output=True, check=True)
+    assert result.stderr == b""
+    at, text = 0, result.stdout
     for _ in streams:
         end = text.index(b"\n", at)
         line = text[at:end].decode("ascii")
@@ -99,31 +101,16 @@ def words_of(lines: Iterable[str]) -> bytes:
     return "".join(found).encode("ascii")
 
 
-def asked(naplps: str, streams: Sequence[bytes]) -> List[ListedStream]:
+def asked(naplps: str, streams: Iterable[bytes]) -> List[ListedStream]:
     """What the program lists of each stream, and its canonical stream, by one `naplps batch`."""
-    requests = b"".join(b"%b 1048576 %d\n%b" % (call, len(stream), stream)
-                        for stream in streams for call in (b"list", b"canon"))
-    said = subprocess.run([naplps, "batch"], input=requests, capture_output=True, check=True).stdout
-    bodies, at = [], 0
-    while at < len(said):
-        line, size, _ = said[at:at + 200].split(b"\n", 2)
-        start = at + len(line) + len(size) + 2
-        at = start + int(size)
-        bodies.append(said[start:at] if line.startswith(b"accepted ") else None)
-    assert len(bodies) == 2 * len(streams)
-    return [ListedStream(lines, canonical or b"") for lines, canonical in zip(bodies[::2], bodies[1::2])]
+    requests = ([("list", 1 << 20, stream), ("canon", 1 << 20, stream)] for stream in streams)
+    return [ListedStream(listed.data if listed.line.startswith("accepted ") else None, canonical.data)
+            for listed, canonical in answers([naplps, "batch"], requests)]
 
 
-def made(naplps: str, lists: Sequence[Sequence[str]]) -> List[bytes]:
+def made(naplps: str, lists: Iterable[Sequence[str]]) -> List[bytes]:
     """The canonical stream of each list of lines."""
-    texts = ["".join(f"{line}\n" for line in lines).encode("ascii") for lines in lists]
-    requests = b"".join(b"make 0 %d\n%b" % (len(text), text) for text in texts)
-    said = subprocess.run([naplps, "batch"], input=requests, capture_output=True, check=True).stdout
-    pages, at = [], 0
-    while at < len(said):
-        line, size, _ = said[at:at + 200].split(b"\n", 2)
-        assert line.startswith(b"accepted "), line
-        start = at + len(line) + len(size) + 2
-        at = start + int(size)
-        pages.append(said[start:at])
-    return pages
+    requests = ([("make", 0, "".join(f"{line}\n" for line in lines).encode("ascii"))] for lines in lists)
+    found = [answer for [answer] in answers([naplps, "batch"], requests)]
+    assert [answer.line for answer in found if not answer.line.startswith("accepted ")] == []
+    return [answer.data for answer in found]

@@ -22,7 +22,8 @@ CRATES = ("sources/test_public*", "sources/test_wrong_bodies*", "sources/test_ci
           "sources/test_repeated_clauses*", "sources/test_names*", "sources/test_promises*", PLANTED, *PROGRAM)
 PYTHON = ("sources/test_python*", "sources/test_bounds*", PLANTED)
 DOCUMENTS = ("sources/test_said_once*", "sources/test_stands_alone*", "sources/test_headline*", "sources/test_counts*",
-             "sources/test_ways*", "program/test_examples*", "tool/test_*documents*", PLANTED)
+             "sources/test_ways*", "sources/test_old_words*", "program/test_examples*", "tool/test_*documents*",
+             PLANTED)
 COMMANDS = ("tool/test_commands*", "tool/test_client*", "tool/test_documents*", "tool/test_house*")
 
 
@@ -57,7 +58,8 @@ RULES = (
     Rule("vectors/dots*", ("tool/test_dot_vectors*", "tool/test_raster*")),
     Rule("vectors/*", ("vectors/*", "library/test_library*")),
     Rule("man/*", ("program/test_man*", *DOCUMENTS, *COMMANDS)),
-    Rule("completions/*", ("program/test_man*", "tool/test_collection_documents*", "tool/test_house*")),
+    Rule("completions/*", ("program/test_man*", "tool/test_collection_documents*", "tool/test_house*",
+                          "sources/test_completions*", "sources/test_old_words*")),
     Rule("examples/*", ("program/test_examples*", "sources/test_gallery*", "tool/test_sketch*", "tool/test_gallery*")),
     Rule("library/*", ("library/*", "tool/test_module*")),
     Rule("browser/*", ("browser/*", "tool/test_*_script*", "library/test_webassembly*", "packages/test_browser*",

@@ -10,20 +10,20 @@ LIB = os.path.join(TOP, "tests", "lib")
 PACKAGES = os.path.join(TOP, "python")
 COMMAND = os.path.join(TOP, "pages", "naplps-pages")
 NOBODY = 65534
-OPTIONS = ("words", "cures")
+KEPT = ("words", "repair")
 Run = Callable[..., "subprocess.CompletedProcess[bytes]"]
 
 
-def bare(words: List[str], cwd: Optional[str] = None) -> List[str]:
-    """The words; a scan into a new store gets what they ask for and nothing else, in place of what is usual.
+def bare(words: List[str], cwd: Optional[str] = None, keeps: str = "") -> List[str]:
+    """The words; a scan into a new store gets what `keeps` names and nothing else, in place of what is usual.
 
     So a test sees the questions and the rows that it is about. test_usual.py has what is usual.
     """
-    if words[:1] != ["scan"] or "--into" not in words[:-1]:
+    if words[:1] != ["scan"] or "-o" not in words[:-1] or "--merge" in words or "--skip" in words:
         return words
-    if os.path.lexists(os.path.join(cwd or "", words[words.index("--into") + 1])):
+    if os.path.lexists(os.path.join(cwd or "", words[words.index("-o") + 1])):
         return words
-    return [*words, *(f"--no-{each}" for each in OPTIONS if f"--{each}" not in words and f"--no-{each}" not in words)]
+    return [*words, *(word for each in KEPT if each not in keeps.split() for word in ("--skip", each))]
 
 
 def open_to_all(folder: pathlib.Path) -> None:

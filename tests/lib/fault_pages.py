@@ -108,7 +108,7 @@ class Requests(Page):
         """The answers to all requests."""
         return Answer(0, b"".join(self.answers))
 
-    def answered(self, count: int) -> bytes:
+    def written(self, count: int) -> bytes:
         """The answers to the requests that are complete in the first bytes."""
         output = b""
         for request, answer in zip(self.requests, self.answers):

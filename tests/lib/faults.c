@@ -15,7 +15,6 @@
 #include <stdlib.h>
 #include <string.h>
 #include <sys/syscall.h>
-#include <sys/uio.h>
 #include <unistd.h>
 
 struct kind {
@@ -37,7 +36,6 @@ static int report = -1;
 static void *(*real_malloc)(size_t);
 static void *(*real_calloc)(size_t, size_t);
 static void *(*real_realloc)(void *, size_t);
-static void *(*real_aligned)(size_t, size_t);
 
 static long number(const char *name, long otherwise) {
     const char *text = getenv(name);
@@ -45,11 +43,10 @@ static long number(const char *name, long otherwise) {
 }
 
 static void find_memory(void) {
-    if (!real_aligned) {
+    if (!real_realloc) {
         real_malloc = (void *(*)(size_t))dlsym(RTLD_NEXT, "malloc");
         real_calloc = (void *(*)(size_t, size_t))dlsym(RTLD_NEXT, "calloc");
         real_realloc = (void *(*)(void *, size_t))dlsym(RTLD_NEXT, "realloc");
-        real_aligned = (void *(*)(size_t, size_t))dlsym(RTLD_NEXT, "memalign");
     }
 }
 
@@ -101,30 +98,6 @@ void *realloc(void *old, size_t size) {
     return refused() ? NULL : real_realloc(old, size);
 }
 
-void *reallocarray(void *old, size_t count, size_t size) {
-    size_t bytes;
-    if (__builtin_mul_overflow(count, size, &bytes)) {
-        errno = ENOMEM;
-        return NULL;
-    }
-    return realloc(old, bytes);
-}
-
-void *memalign(size_t alignment, size_t size) {
-    find_memory();
-    return refused() ? NULL : real_aligned(alignment, size);
-}
-
-void *aligned_alloc(size_t alignment, size_t size) { return memalign(alignment, size); }
-
-int posix_memalign(void **place, size_t alignment, size_t size) {
-    void *found = memalign(alignment, size);
-    if (!found)
-        return ENOMEM;
-    *place = found;
-    return 0;
-}
-
 static size_t least(size_t a, size_t b) { return a < b ? a : b; }
 
 static ssize_t failure(void) {
@@ -148,19 +121,4 @@ ssize_t write(int file, const void *bytes, size_t size) {
         size = least(size, write_most);
     }
     return syscall(SYS_write, file, bytes, size);
-}
-
-// Of several pieces only the first that isn't empty is taken.
-ssize_t readv(int file, const struct iovec *pieces, int count) {
-    int at = 0;
-    while (at + 1 < count && pieces[at].iov_len == 0)
-        at++;
-    return read(file, count > 0 ? pieces[at].iov_base : NULL, count > 0 ? pieces[at].iov_len : 0);
-}
-
-ssize_t writev(int file, const struct iovec *pieces, int count) {
-    int at = 0;
-    while (at + 1 < count && pieces[at].iov_len == 0)
-        at++;
-    return write(file, count > 0 ? pieces[at].iov_base : NULL, count > 0 ? pieces[at].iov_len : 0);
 }

@@ -1,6 +1,6 @@
 """Images of floppies of DOS, made by hand: a boot sector with its program, two FATs of 12 bits, the root and files."""
 import struct
-from typing import Dict, List, NamedTuple
+from typing import Dict, NamedTuple
 
 SECTOR, ENTRY = 512, 32
 LAST = 0xFFF
@@ -34,12 +34,6 @@ def boot_sector(form: Format) -> bytes:
     return (b"\xeb\x3c\x90MSDOS3.3" + table + name + PROGRAM).ljust(SECTOR - 2, b"\0") + b"\x55\xaa"
 
 
-def table_of(fat: List[int], length: int) -> bytes:
-    """A table of values of twelve bits."""
-    bits = sum(value << 12 * number for number, value in enumerate(fat))
-    return bits.to_bytes(length, "little")
-
-
 def floppy(files: Dict[str, bytes], name: str = "720K", fill: bytes = b"\xf6") -> bytes:
     """A disk that was formatted, which fills its clusters, and to which files were written one after another."""
     form = FORMATS[name]
@@ -52,5 +46,7 @@ def floppy(files: Dict[str, bytes], name: str = "720K", fill: bytes = b"\xf6") -
         fat += [*range(len(fat) + 1, len(fat) + clusters), LAST]
         sectors = page + bytes(-len(page) % SECTOR)
         data += sectors + fill * (clusters * form.cluster * SECTOR - len(sectors))
-    disk = boot_sector(form) + table_of(fat, form.fat * SECTOR) * 2 + root.ljust(form.roots * ENTRY, b"\0") + data
+    bits = sum(value << 12 * number for number, value in enumerate(fat))
+    table = bits.to_bytes(form.fat * SECTOR, "little")
+    disk = boot_sector(form) + table * 2 + root.ljust(form.roots * ENTRY, b"\0") + data
     return disk + fill * (form.sectors * SECTOR - len(disk))

@@ -11,8 +11,7 @@ import pytest
 
 
 def _put_file(path: str, _: str) -> None:
-    with open(path, "wb") as file:
-        file.write(b"my own notes\n" * 100)
+    Path(path).write_bytes(b"my own notes\n" * 100)
 
 
 def _put_device(path: str, _: str) -> None:
@@ -52,8 +51,7 @@ def states(folder: str) -> Dict[str, State]:
             status = os.lstat(path)
             content: Optional[str] = None
             if stat.S_ISREG(status.st_mode):
-                with open(path, "rb") as file:
-                    content = hashlib.sha256(file.read()).hexdigest()
+                content = hashlib.sha256(Path(path).read_bytes()).hexdigest()
             elif stat.S_ISLNK(status.st_mode):
                 content = os.readlink(path)
             found[os.path.relpath(path, folder)] = (status.st_mode, status.st_nlink, content)
@@ -70,15 +68,8 @@ def remove(path: str) -> None:
 
 def file_hashes(home: str, without: Tuple[str, ...] = ("pages/x.db", "pages/r.html", ".cache")) -> Dict[str, str]:
     """The hash of each file below the home folder, but of those that the commands are asked to make."""
-    found = {}
-    for folder, _, names in os.walk(home):
-        for name in names:
-            path = os.path.join(folder, name)
-            inner = os.path.relpath(path, home)
-            if not inner.startswith(without):
-                with open(path, "rb") as file:
-                    found[inner] = hashlib.sha256(file.read()).hexdigest()
-    return found
+    return {name: content for name, (mode, _, content) in states(home).items()
+            if content and stat.S_ISREG(mode) and not name.startswith(without)}
 
 
 def files_in(folder: "str | os.PathLike[str]") -> Dict[bytes, bytes]:
@@ -87,8 +78,7 @@ def files_in(folder: "str | os.PathLike[str]") -> Dict[bytes, bytes]:
     for root, _, names in os.walk(os.fsencode(folder)):
         for name in names:
             path = os.path.join(root, name)
-            with open(path, "rb") as source:
-                data = source.read()
+            data = Path(os.fsdecode(path)).read_bytes()
             if name.endswith(b".json"):
                 data = re.sub(rb'(?m)^  "time": "[^"]*"$', b"", data)
             found[os.path.relpath(path, os.fsencode(folder))] = data

@@ -3,7 +3,6 @@ import collections
 import io
 import os
 import random
-import re
 import signal
 import sys
 import time
@@ -16,23 +15,21 @@ Said = collections.namedtuple("Said", "status out err")
 # What a command may end with.
 STATUSES = (0, 1, 3)
 HANGS = "hangs"
-# What a word of an earlier version says of the new one, which is no matter here.
-OLD_WORD = re.compile(rb"naplps-pages: `[^\n]*; the next version takes only that\n")
 
 
-def forked(words, folder, program, seconds=900):
+def forked(words, folder, program, seconds=900, keeps=""):
     """What the command with these words says in a folder, and its status; a negative one is a signal's."""
-    return ended(begun(words, folder, program), folder, seconds)
+    return ended(begun(words, folder, program, keeps), folder, seconds)
 
 
-def begun(words, folder, program):
+def begun(words, folder, program, keeps=""):
     """The process of a command with these words, which says something in a folder."""
     for name in ("out", "err"):
         if os.path.exists(os.path.join(folder, name)):
             os.unlink(os.path.join(folder, name))
     child = os.fork()
     if not child:
-        _be(words, folder, program, os.path.join(folder, "out"), os.path.join(folder, "err"))
+        _be(bare([*words], folder, keeps), folder, program, os.path.join(folder, "out"), os.path.join(folder, "err"))
     return child
 
 
@@ -51,7 +48,7 @@ def ended(child, folder, seconds=900):
         time.sleep(0.001)
     with open(out, "rb") as said, open(err, "rb") as told:
         return Said(os.waitstatus_to_exitcode(status) if hasattr(os, "waitstatus_to_exitcode") else status >> 8,
-                    said.read(), OLD_WORD.sub(b"", told.read()))
+                    said.read(), told.read())
 
 
 def _be(words, folder, program, out, err):
@@ -66,7 +63,7 @@ def _be(words, folder, program, out, err):
         sys.stderr = io.TextIOWrapper(open(2, "wb", closefd=False), "utf-8", errors="backslashreplace")
         os.chdir(folder)
         os.environ["NAPLPS"] = program
-        sys.argv = [COMMAND, *bare([*words])]
+        sys.argv = [COMMAND, *words]
         run(COMMAND)
     except SystemExit as end:
         status = end.code or 0

@@ -1,11 +1,10 @@
 """Two pages of 64 MiB, and runs on them, whose output is compared as it comes, and whose memory is measured."""
-import os
 import resource
 import subprocess
 import threading
 import time
 from pathlib import Path
-from typing import Iterator, NamedTuple, Optional, Sequence
+from typing import IO, Iterator, NamedTuple, Optional, Sequence, Tuple
 
 from dev.judging import PATIENCE, limit_processor
 
@@ -40,32 +39,18 @@ def write_long(folder: Path) -> None:
         file.writelines(blocks(b"\x00", LENGTH))
 
 
-class Comparer(threading.Thread):
-    """Reads a pipe to its end, and compares its bytes with equal pieces after a header; keeps none of them."""
-
-    def __init__(self, source: int, header: bytes, piece: bytes) -> None:
-        super().__init__()
-        self.source = source
-        self.header = header
-        self.block = piece * (1 + 589824 // len(piece))
-        self.count = 0
-        self.is_same = True
-
-    def run(self) -> None:
-        """Reads and compares."""
-        rest = self.header
-        with os.fdopen(self.source, "rb", buffering=0) as source:
-            while True:
-                part = source.read(MEBIBYTE)
-                if not part:
-                    return
-                self.count += len(part)
-                while part:
-                    rest = rest or self.block
-                    size = min(len(part), len(rest))
-                    if part[:size] != rest[:size]:
-                        self.is_same = False
-                    part, rest = part[size:], rest[size:]
+def compared(source: "IO[bytes]", header: bytes, piece: bytes) -> Tuple[int, bool]:
+    """How many bytes a pipe has, and whether they are a header and equal pieces after it; keeps none of them."""
+    block = piece * (1 + 589824 // len(piece))
+    count, is_same, rest = 0, True, header
+    for part in iter(lambda: source.read(MEBIBYTE), b""):
+        count += len(part)
+        while part:
+            rest = rest or block
+            size = min(len(part), len(rest))
+            is_same = is_same and part[:size] == rest[:size]
+            part, rest = part[size:], rest[size:]
+    return count, is_same
 
 
 class Gauge(threading.Thread):
@@ -107,21 +92,16 @@ def run_long(words: Sequence[str], page: Path, header: bytes, piece: bytes, limi
         if limit is not None:
             resource.setrlimit(resource.RLIMIT_AS, (limit, limit))
 
-    ending, beginning = os.pipe()
-    comparer = Comparer(ending, header, piece)
-    comparer.start()
-    with open(page, "rb") as source, open(page.with_name("stderr"), "w+b") as stderr:
-        process = subprocess.Popen(words, preexec_fn=lessen, stdin=source, stdout=beginning, stderr=stderr)
-        os.close(beginning)
-        gauge = Gauge(process.pid)
-        gauge.start()
+    with open(page, "rb") as source, open(page.with_name("stderr"), "w+b") as stderr, subprocess.Popen(
+            words, preexec_fn=lessen, stdin=source, stdout=subprocess.PIPE, stderr=stderr) as process:
         limit_processor(process.pid, 120)
-        try:
-            process.wait(PATIENCE)
-        except subprocess.TimeoutExpired:
-            process.kill()
-            process.wait()
-        comparer.join()
+        gauge, watch = Gauge(process.pid), threading.Timer(PATIENCE, process.kill)
+        gauge.start()
+        watch.start()
+        assert process.stdout is not None
+        length, is_same = compared(process.stdout, header, piece)
+        status = process.wait()
+        watch.cancel()
         gauge.join()
         stderr.seek(0)
-        return LongRun(process.returncode, stderr.read(), comparer.count, comparer.is_same, gauge.peak)
+        return LongRun(status, stderr.read(), length, is_same, gauge.peak)

@@ -1,10 +1,6 @@
 """A box of files of all kinds, as an archive has one: pages, copies, captures, images of disks, packs, texts, files of
-other formats, in folders of any depth and with names of any bytes.
-
-`PYTHONPATH=python python3 tests/lib/mixed_box.py FOLDER COUNT` writes one.
-"""
+other formats, in folders of any depth and with names of any bytes."""
 import os
-import sys
 from random import Random
 
 from boxes import box
@@ -13,6 +9,7 @@ from naplps.client import Client
 from packers import pack
 from planted import files, pool, rest
 from samples import with_parity
+from scans import tree
 
 TEXTS = (b"A letter of some words.\r\n" * 30, "Un été à Québec\n".encode("latin-1") * 20,
          "Un été à Québec\n".encode() * 20)
@@ -50,22 +47,13 @@ def mixed(count, seed, program):
 
 
 def write(folder, count, seed, naplps):
-    """Writes such a box, with packs of some of its files too; how many files stand in it, without members of packs."""
+    """Writes such a box, with packs of some of its files too."""
     program = Client(naplps)
     try:
         some = mixed(count, seed, program)
     finally:
         program.close()
-    for name, data in some.items():
-        path = os.path.join(os.fsencode(folder), name)
-        os.makedirs(os.path.dirname(path), exist_ok=True)
-        with open(path, "wb") as file:
-            file.write(data)
+    tree(folder, some)
     for number, ending in enumerate((".zip", ".tar", ".tar.gz")):
         members = {f"m{at}.nap": data for at, data in enumerate(list(some.values())[number::max(7, count // 20)])}
         pack(os.path.join(folder, f"pack{number}{ending}"), members)
-    return len(some) + 3
-
-
-if __name__ == "__main__":
-    print(write(sys.argv[1], int(sys.argv[2]), 92, os.environ["NAPLPS"]), "files")

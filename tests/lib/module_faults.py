@@ -20,9 +20,9 @@ WRONG_PLACE = r"""(export "check" (func $wrong))
 Change = Callable[[str], Tuple[str, int]]
 
 
-def constant(kind: str, before: int, after: int) -> Change:
+def constant(before: int, after: int) -> Change:
     """A number of the code is another one."""
-    return lambda text: re.subn(rf"\({kind}\.const {before}\)", f"({kind}.const {after})", text)
+    return lambda text: re.subn(rf"\(i64\.const {before}\)", f"(i64.const {after})", text)
 
 
 def bytes_of_data(before: str, after: str) -> Change:
@@ -39,11 +39,11 @@ def wrong_place(text: str) -> Tuple[str, int]:
 
 
 FAULTS: Dict[str, Change] = {
-    "a bound: a polygon has 2,001 displacements": constant("i64", 2000, 2001),
-    "a bound: a run has 16,385 words": constant("i64", 16384, 16385),
+    "a bound: a polygon has 2,001 displacements": constant(2000, 2001),
+    "a bound: a run has 16,385 words": constant(16384, 16385),
     "a table's entry: two digits of a number": bytes_of_data("07080910", "07080911"),
     "a table's entry: the name of a refusal": bytes_of_data("OutsidePenUnknown", "OutsideqenUnknown"),
-    "a colour: a bit of green": constant("i64", 0x2424242424242424, 0x2424242424242420),
+    "a colour: a bit of green": constant(0x2424242424242424, 0x2424242424242420),
     "a place: the byte after the one that is refused": wrong_place,
 }
 

@@ -16,11 +16,8 @@ BEHIND = (b"\r\nNO CARRIER\r\n", b"\r\nOK\r\n+++ATH\r\n", b"\r\n")
 FILLS = (b"\0", b"\xe5", b"\xf6", b"\xff")
 RESET = b"\x0e\x20\x79\x4f"
 # A macro of a rectangle and a point, and its call.
-MACRO_PAGE = (b"\x1b\x40\x41\x0e\x21\x48\x33\x49\x40%c\x49\x40\x40\x26\x52\x40\x40\x0f\x1b\x45"
-              b"\x1b\x2a\x7a\x19\x41")
+MACRO_PAGE = b"\x1b\x40\x41\x0e\x21\x48\x33\x49\x40%c\x49\x40\x40\x26\x52\x40\x40\x0f\x1b\x45\x1b\x2a\x7a\x19\x41"
 BEGINNINGS = ("CS", "RESET", "SO", "canonical", "made", "macro")
-# Sectors of a disk, in images.
-SECTOR = 512
 
 
 class Planted(NamedTuple):

@@ -21,10 +21,9 @@ WANTED = """
   const context = Object.assign(document.createElement("canvas"), {width: wide, height: high}).getContext("2d");
   context.drawImage(image, 0, 0);
   window.wanted = context.getImageData(0, 0, wide, high).data;
-})(@WORDS@)
+})("@ADDRESS@", 1024, 800)
 """
-COMPARED = """
-((wide, high, near, veryNear, part) => {
+COMPARED = """((wide, high, near, veryNear, part) => {
   const shown = player.screen.context.getImageData(0, 0, wide, high).data, across = Math.ceil(wide / part);
   const far = new Uint32Array(across * Math.ceil(high / part));
   let all = 0, others = 0;
@@ -39,15 +38,14 @@ COMPARED = """
     if (most > veryNear) far[Math.floor(at / 4 / wide / part) * across + Math.floor(at / 4 % wide / part)] += 1;
   }
   return {all, others, most: Math.max(...far)};
-})(@WORDS@)
-"""
+})""" + f"(1024, 800, {NEAR}, {VERY_NEAR}, {PART})"
 
 
 def play(naplps, page, html, *words):
     """Makes the player of a page; what the command said, and the address."""
-    said = subprocess.run([COMMAND, "play", page, "-o", html, *words], env=dict(os.environ, NAPLPS=naplps),
-                          capture_output=True)
-    return said, "file://" + os.path.abspath(html)
+    result = subprocess.run([COMMAND, "show", page, "-o", html, *words], env=dict(os.environ, NAPLPS=naplps),
+                            capture_output=True)
+    return result, "file://" + os.path.abspath(html)
 
 
 def held(html):
@@ -59,26 +57,17 @@ def held(html):
 
 def drawn_of(*played):
     """What players show of what they hold, which comes as JSON; without the steps of their drawings."""
-    said = subprocess.run(["node", os.path.join(LIB, "drawn_answers.mjs")], capture_output=True,
-                          input="".join(f"{each}\n" for each in played).encode("ascii"))
-    assert (said.returncode, said.stderr) == (0, b"")
-    return [json.loads(line) for line in said.stdout.splitlines()]
+    result = subprocess.run(["node", os.path.join(LIB, "drawn_answers.mjs")], capture_output=True,
+                            input="".join(f"{each}\n" for each in played).encode("ascii"))
+    assert (result.returncode, result.stderr) == (0, b"")
+    return [json.loads(line) for line in result.stdout.splitlines()]
 
 
-def called(lines, *words):
-    """Some lines of a script with the words that they are called with."""
-    return lines.replace("@WORDS@", ", ".join(map(json.dumps, words)))
-
-
-def want(browser, svg, size):
-    """Takes a sketch for the wanted picture, without the caption below it."""
+def how_like(browser, svg):
+    """How far what the player shows is from a sketch, without the caption below it."""
     address = "data:image/svg+xml;base64," + base64.b64encode(svg.encode("utf-8")).decode("ascii")
-    browser.run(called(WANTED, address, *size))
-
-
-def how_like(size):
-    """Lines that tell how far what the player shows is from the wanted picture."""
-    return called(COMPARED, *size, NEAR, VERY_NEAR, PART).strip()
+    browser.run(WANTED.replace("@ADDRESS@", address))
+    return browser.run(COMPARED)
 
 
 def like(how):

@@ -1,17 +1,22 @@
-"""Reads PNG files of eight bits a part, as renderers write them."""
+"""Reads PNG files in colours of eight bits, as renderers write them."""
 import struct
 import zlib
+from itertools import repeat
+from pathlib import Path
 from typing import List, Tuple
 
 
-def _pieces(data: bytes) -> "List[Tuple[bytes, bytes]]":
+def chunks(data: bytes) -> "List[Tuple[bytes, bytes]]":
+    """The name and the body of each chunk, whose sums are right."""
     assert data[:8] == b"\x89PNG\r\n\x1a\n"
-    at, out = 8, []
+    at, found = 8, []
     while at < len(data):
-        length, kind = struct.unpack(">I4s", data[at:at + 8])
-        out.append((kind, data[at + 8:at + 8 + length]))
+        length, name = struct.unpack(">I4s", data[at:at + 8])
+        body, (crc,) = data[at + 8:at + 8 + length], struct.unpack(">I", data[at + 8 + length:at + 12 + length])
+        assert crc == zlib.crc32(name + body)
+        found.append((name, body))
         at += 12 + length
-    return out
+    return found
 
 
 def _unfiltered(kind: int, row: bytearray, above: bytes, step: int) -> None:
@@ -32,10 +37,9 @@ def _unfiltered(kind: int, row: bytearray, above: bytes, step: int) -> None:
 
 def greys(path: str) -> List[List[int]]:
     """The rows of the picture, as greys from 0 to 255, on black where it is transparent."""
-    with open(path, "rb") as file:
-        pieces = _pieces(file.read())
+    pieces = chunks(Path(path).read_bytes())
     wide, high, depth, kind = struct.unpack(">IIBB", dict(pieces)[b"IHDR"][:10])
-    step = {0: 1, 2: 3, 4: 2, 6: 4}[kind]
+    step = {2: 3, 6: 4}[kind]
     assert depth == 8
     data = zlib.decompress(b"".join(body for name, body in pieces if name == b"IDAT"))
     above, out = bytes(wide * step), []
@@ -50,11 +54,8 @@ def greys(path: str) -> List[List[int]]:
 
 
 def _greys_of(row: bytes, step: int) -> List[int]:
-    colours = row[0::step] if step < 3 else bytes(
-        (red * 77 + green * 150 + blue * 29) >> 8 for red, green, blue in zip(row[0::step], row[1::step], row[2::step]))
-    if step in (1, 3):
-        return list(colours)
-    return [grey * alpha // 255 for grey, alpha in zip(colours, row[step - 1::step])]
+    colours = zip(row[0::step], row[1::step], row[2::step], row[3::step] if step == 4 else repeat(255))
+    return [((red * 77 + green * 150 + blue * 29) >> 8) * alpha // 255 for red, green, blue, alpha in colours]
 
 
 def apart(one: List[List[int]], other: List[List[int]]) -> float:

@@ -1,6 +1,7 @@
 """What the tests of reports share: a collection with all that a report shows, how a report is made, and what stands in
 its file."""
 import base64
+import contextlib
 import json
 import os
 import re
@@ -9,7 +10,7 @@ import zlib
 
 from command import COMMAND
 from samples import OUTSIDE, POINT, SPELLED
-from scans import tree
+from scans import start, tree
 from stream_writer import StreamWriter
 
 MARKUP = "<script>hacked=1</script><img src=x onerror=hacked=1>"
@@ -63,5 +64,23 @@ def run_tool(naplps, folder, *words):
 
 def report_address(naplps, store, name, *options):
     """Makes a report of the store; its address."""
-    run_tool(naplps, os.path.dirname(store), "report", "pages.db", "-o", name, "--replace", *options)
+    run_tool(naplps, os.path.dirname(store), "report", "pages.db", "-o", name, "--force", *options)
     return "file://" + os.path.join(os.path.dirname(store), name)
+
+
+def scanned(naplps, folder, files):
+    """Scans files of these names and bytes; the store."""
+    tree(os.path.join(folder, "pages"), files)
+    run_tool(naplps, folder, "scan", "pages", "-o", "pages.db")
+    return os.path.join(folder, "pages.db")
+
+
+@contextlib.contextmanager
+def shown_report(naplps, store, kind):
+    """The address of the report of a store: of a file, or of a server."""
+    if kind == "file":
+        yield report_address(naplps, store, "all.html")
+        return
+    with start(["report", store, "--serve"], naplps) as server:
+        yield server.stdout.readline().decode().strip()
+        server.terminate()

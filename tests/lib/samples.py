@@ -29,6 +29,12 @@ def lack(command: str) -> str:
     return "" if shutil.which(command) else f"there is no {command}"
 
 
+def need(command: str, package: str = "") -> None:
+    """Skips the test where a command can't be run here."""
+    if lack(command):
+        pytest.skip(f"{lack(command)} (Debian: apt-get install {package or command})")
+
+
 def has(command: str) -> bool:
     """Whether a command can be run here."""
     return not lack(command)

@@ -1,23 +1,25 @@
 """What the tests of scans share: trees of files, stores as plain tables, parts, and scans that are at work."""
 import os
-import re
 import signal
 import sqlite3
 import subprocess
 import time
-from typing import NamedTuple, Optional
+from collections import namedtuple
+from contextlib import closing
 
 from command import COMMAND, bare
 from naplps_pages.collection import tables
 from naplps_pages.collection.kept import keep_part, read_part
-from naplps_pages.collection.protocol import block_of
+from naplps_pages.collection.protocol import WorkerOptions, block_of
 from naplps_pages.collection.tables import Answered, File, Terms
 from naplps_pages.collection.store import open_to_write
+from naplps_pages.collection.worker import Worker
 from naplps_pages.collection.writer import Writer
 from samples import MACRO, OUTSIDE, POINT, with_parity
 
 # What is said of a file that is no database.
-NO_STORE = ("isn't a store: `naplps-pages scan FOLDER --into STORE` makes one, and `naplps-pages check` says what this "
+FOLDER_NO_STORE = "is a folder: `naplps-pages scan FOLDER -o STORE` makes a store of its files"
+NO_STORE = ("isn't a store: `naplps-pages scan FOLDER -o STORE` makes one, and `naplps-pages check` says what this "
             "file is")
 # A program that answers pages by their first letters, and fails on some.
 FAKE = """
@@ -70,41 +72,36 @@ def tree(folder, files):
     return os.path.abspath(os.fsdecode(folder))
 
 
+def replaced_by_link(folder, outside):
+    """Puts a link to another folder in the place of a folder, as somebody may while it is searched."""
+    os.rename(folder, folder + "-moved")
+    os.symlink(outside, folder)
+
+
 def rows(store, words, *values):
     """The rows of a query."""
-    connection = sqlite3.connect(store, timeout=60)
-    try:
+    with closing(sqlite3.connect(store, timeout=60)) as connection:
         return connection.execute(words, values).fetchall()
-    finally:
-        connection.close()
 
 
-class FileRow(NamedTuple):
-    """A file of a store with its answer, and with what the treatments of its page came to."""
+def alter(store, words):
+    """Changes a database by words of SQL."""
+    with closing(sqlite3.connect(store, isolation_level=None)) as connection:
+        connection.executescript(words)
 
-    folder: bytes
-    name: bytes
-    state: int = 0
-    why: Optional[str] = None
-    size: Optional[int] = None
-    own: Optional[bytes] = None
-    answer: Optional[int] = None
-    number: Optional[int] = None
-    left_out: Optional[str] = None
-    place: Optional[int] = None
-    entries: Optional[int] = None
-    canon: Optional[bytes] = None
-    canon_size: Optional[int] = None
-    no_answer: Optional[str] = None
-    treatments: Optional[str] = None
-    treated_entries: Optional[int] = None
-    treated: Optional[bytes] = None
-    kind: Optional[int] = None
-    looks_like: Optional[str] = None
-    several: Optional[int] = None
-    grade: Optional[int] = None
-    treated_canon: Optional[bytes] = None
-    treated_size: Optional[int] = None
+
+def store_of(run, folder, files, keeps=""):
+    """The store of a scan of files, which are made beside it, in a folder of pages."""
+    pages, store = tree(os.path.join(folder, "pages"), files), os.path.join(folder, "pages.db")
+    assert run(["scan", pages, "-o", store], keeps=keeps).returncode == 0
+    return store
+
+
+# A file of a store with its answer, and with what the treatments of its page came to.
+FileRow = namedtuple("FileRow", (
+    "folder", "name", "state", "why", "size", "own", "answer", "number", "left_out", "place", "entries", "canon",
+    "canon_size", "no_answer", "treatments", "treated_entries", "treated", "kind", "looks_like", "several", "grade",
+    "treated_canon", "treated_size"), defaults=(0, *[None] * 20))
 
 
 def table(store, top=""):
@@ -174,6 +171,22 @@ def made_up(store, first, number, part=None):
         for at, one, other in zip(range(first, first + number), own, canon)], part=read_part(part) if part else None)
 
 
+def made_up_parts(folder, number, each, more=0):
+    """Stores of the parts of a scan of made-up rows, with so many each; the first has some of the next one's too."""
+    stores = [os.path.join(folder, "%d.db" % at) for at in range(number)]
+    for at, store in enumerate(stores):
+        made_up(store, at * each, each + (0 if at else more), "%d/%d" % (at, number))
+    return stores
+
+
+def files_read(program, chunk, **more):
+    """The files of a chunk of names, as a worker reads them."""
+    worker = Worker(WorkerOptions(program, 0, 600, 1 << 20), lambda hashes: set(), **more)
+    found = [file for files, _ in worker.pieces(tuple(chunk)) for file in files]
+    worker.close()
+    return found
+
+
 def statuses(store):
     """The status and the reason of each file, by its name without folders."""
     return {os.path.basename(name): (status, reason)
@@ -185,10 +198,11 @@ def is_sound(store):
     return rows(store, "PRAGMA integrity_check") == [("ok",)]
 
 
-def start(words, program, **more):
+def start(words, program, keeps="", **more):
     """A command that is at work."""
-    return subprocess.Popen([COMMAND, *bare(words, more.get("cwd"))], stdout=subprocess.PIPE, stderr=subprocess.PIPE,
-                            env=dict(os.environ, NAPLPS=program, PYTHONDONTWRITEBYTECODE="1"), **more)
+    return subprocess.Popen([COMMAND, *bare(words, more.get("cwd"), keeps)], stdout=subprocess.PIPE,
+                            stderr=subprocess.PIPE, **more,
+                            env=dict(os.environ, NAPLPS=program, PYTHONDONTWRITEBYTECODE="1"))
 
 
 def count(store):
@@ -224,11 +238,6 @@ def children(pid):
     return found
 
 
-def without_progress(told):
-    """What a scan told on standard error but how far it was, which it says once a minute."""
-    return re.sub(r"(?m)^naplps-pages: [\d,]+( of [\d,]+)? files, [\d,]+ a second.*\n", "", told)
-
-
 SMALL_FILES = [POINT, OUTSIDE, MACRO, b"", b"\x18", b"\x1b", with_parity(POINT), b"\x0fhello", b"\x0f\x00hello"]
 
 
@@ -238,11 +247,11 @@ def mixed(number):
         b"\x0f%d" % index if index % 3 else b"") for index in range(number)}
 
 
-def scan_parts(run, pages, folder, number, *words, **options):
+def scan_parts(run, pages, folder, number, **options):
     """Scans all parts; their stores."""
     stores = []
     for index in range(number):
         stores.append(os.path.join(str(folder), "part-%d.db" % index))
-        result = run(["scan", pages, "--into", stores[-1], "--part", "%d/%d" % (index, number), *words], **options)
+        result = run(["scan", pages, "-o", stores[-1], "--shard", "%d/%d" % (index, number)], **options)
         assert (result.returncode, result.stderr) == (0, b"")
     return stores

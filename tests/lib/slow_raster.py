@@ -102,8 +102,7 @@ def rectangle(a, b, wide=256, high=200):
     """The dots of a filled rectangle."""
     left, low = min(a[0], b[0]), min(a[1], b[1])
     right, top = max(a[0], b[0], left + U), max(a[1], b[1], low + U)
-    return {(i, j) for i in range(wide) for j in range(high)
-            if left <= middle(i) < right and low <= middle(j) < top}
+    return {(i, j) for i in range(wide) for j in range(high) if left <= middle(i) < right and low <= middle(j) < top}
 
 
 def direction(n):

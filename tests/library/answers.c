@@ -50,18 +50,6 @@ static void gives(text_call *call, const uint8_t *page, size_t length, const voi
     check(says(answer, NAPLPS_ACCEPTED, 0, 0, "", size) && memcmp(room, text, size) == 0, what);
 }
 
-static void try_accepted(void) {
-    check(says(naplps_check(0, BYTES(POINT)), NAPLPS_ACCEPTED, 0, 0, "", 1), "check of a point");
-    gives(naplps_list, BYTES(POINT), BYTES(POINT_LINE), "list of a point");
-    gives(naplps_places, BYTES(POINT), BYTES("5 " POINT_LINE), "places of a point");
-    gives(naplps_canon, BYTES(POINT), BYTES("\x0E\x21\x5F\x26\x52\x40\x40\x40\x40\x40\x40\x40"), "canon of a point");
-    gives(naplps_canon_form1, BYTES("\x0E\x26\x52\x26\x52"),
-          BYTES("\x0E\x21\x5F\x26\x52\x40\x40\x40\x40\x40\x40\x40\x26\x52\x40\x40\x40\x40\x40\x40\x40"),
-          "form 1 of two points");
-    check(naplps_is_plain(BYTES("\x0E\x21\x5F\x26\x52\x40\x40\x40\x40\x40\x40\x40")), "the canonical stream is plain");
-    check(!naplps_is_plain(BYTES("\x0E\x27\x52")), "a displacement isn't plain");
-}
-
 static void try_empty(void) {
     check(says(naplps_check(0, NULL, 0), NAPLPS_ACCEPTED, 0, 0, "", 0), "check of nothing");
     check(says(naplps_list(0, NULL, 0, NULL, 0), NAPLPS_ACCEPTED, 0, 0, "", 0), "list of nothing");
@@ -102,9 +90,7 @@ static void try_lines(void) {
     check(is_made(naplps_make(BYTES(POINT_LINE), room, 11), NAPLPS_SMALL_ROOM, 12, 1), "a small room for a page");
     check(is_unmade(naplps_make(BYTES(POINT_LINE "END\n"), room, 64), NAPLPS_MISFIT, 2, 0, 0), "a stray END");
     check(is_unmade(naplps_make(BYTES("BELL\nGLYPH 41\n" POINT_LINE), room, 64), NAPLPS_UNCLOSED, 3, 0, 2), "no END");
-    check(is_unmade(naplps_make(BYTES("BELL\nBELL\r\n"), room, 64), NAPLPS_NO_LINE, 2, 1, 0), "a line with CR");
     check(is_unmade(naplps_make(BYTES("WAIT 63\nWAIT 64\n"), room, 64), NAPLPS_NO_LINE, 2, 6, 0), "a number too large");
-    check(is_unmade(naplps_make(BYTES("BELL"), room, 64), NAPLPS_NO_LINE, 1, 5, 0), "a line without its end");
     check(is_untouched(room, 0, sizeof room), "a room of lines that make no page");
     check(is_made(naplps_make(BYTES(POINT_LINE), room, 12), NAPLPS_ACCEPTED, 12, 1), "a point from its line");
     check(memcmp(room, point, 12) == 0 && is_untouched(room, 12, sizeof room), "the page of a point");
@@ -112,8 +98,6 @@ static void try_lines(void) {
 }
 
 static void try_budgets(void) {
-    check(says(naplps_check(4, BYTES(MACRO)), NAPLPS_ACCEPTED, 0, 0, "", 1), "a budget that is enough");
-    check(says(naplps_check(3, BYTES(MACRO)), NAPLPS_REFUSED, NAPLPS_BUDGET, 13, "Budget", 0), "a budget that isn't");
     check(says(naplps_check(NAPLPS_BUDGET_MOST, BYTES(MACRO)), NAPLPS_ACCEPTED, 0, 0, "", 1), "the greatest budget");
     check(says(naplps_check(NAPLPS_BUDGET_USUAL, BYTES(MACRO)), NAPLPS_ACCEPTED, 0, 0, "", 1), "the usual budget");
     for (uint32_t over = NAPLPS_BUDGET_MOST + 1; over != 0; over = over == UINT32_MAX ? 0 : UINT32_MAX) {
@@ -124,19 +108,6 @@ static void try_budgets(void) {
             struct naplps_answer answer = text_calls[i].call(over, BYTES(POINT), room, sizeof room);
             check(says(answer, NAPLPS_NO_BUDGET, 0, 0, "", 0) && is_untouched(room, 0, sizeof room), "no such budget");
         }
-    }
-}
-
-// A page in two pieces has the answer of the whole at every cut.
-static void try_cuts(const uint8_t *page, size_t length) {
-    struct naplps_answer whole = naplps_check(4, page, length);
-    for (size_t cut = 0; cut <= length; cut++) {
-        struct naplps_checking checking = {0};
-        check(says(naplps_check_begin(&checking, 4), NAPLPS_ACCEPTED, 0, 0, "", 0), "begin");
-        naplps_check_feed(&checking, cut == 0 ? NULL : page, cut);
-        struct naplps_answer so_far = naplps_check_feed(&checking, page + cut, length - cut);
-        check(so_far.length == 0 && (so_far.status == NAPLPS_ACCEPTED || are_equal(so_far, whole)), "both pieces");
-        check(are_equal(naplps_check_finish(&checking), whole), "a cut");
     }
 }
 
@@ -169,16 +140,11 @@ static void try_begun(void) {
 }
 
 int main(void) {
-    try_accepted();
     try_empty();
     try_refused();
     try_lines();
     try_budgets();
     try_begun();
-    try_cuts(BYTES(POINT));
-    try_cuts(BYTES(OUTSIDE));
-    try_cuts(BYTES(MACRO));
-    try_cuts(BYTES("\x0E\x26\x52\x40\x40\x1B"));
     printf("%d answers\n", passed);
     return 0;
 }

@@ -67,6 +67,7 @@ static inline struct naplps_answer check_pieces(uint32_t budget, const uint8_t *
     for (size_t at = 0; at < length; at += size) {
         struct naplps_answer now = naplps_check_feed(&checking, page + at, size < length - at ? size : length - at);
         must(answer.status == NAPLPS_ACCEPTED || are_equal(answer, now), "a refusal has changed");
+        must(now.length == 0, "a piece has a length");
         answer = now;
     }
     struct naplps_answer whole = naplps_check_finish(&checking);

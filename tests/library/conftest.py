@@ -1,5 +1,4 @@
 """What the tests of the library share: the library, programs in C that call it, and the vectors."""
-import shutil
 from pathlib import Path
 from typing import List
 
@@ -7,13 +6,13 @@ import pytest
 
 from dev.layout import Untried, find_library
 from dev.vectors.rows import Vector, files, vectors_of
+from samples import need
 
 
 @pytest.fixture(scope="session")
 def compiler() -> str:
     """The C compiler."""
-    if shutil.which("cc") is None:
-        pytest.skip("cc isn't there (Debian: apt-get install gcc)")
+    need("cc", "gcc")
     return "cc"
 
 

@@ -58,12 +58,11 @@ static void add_pieces(struct answers *to, uint32_t budget, const uint8_t *page,
 }
 
 static void add_page(struct answers *to, uint32_t budget, const uint8_t *page, size_t length) {
-    static text_call *const calls[] = {naplps_list, naplps_canon, naplps_canon_form1, naplps_places};
     struct naplps_answer answer = naplps_check(budget, page, length);
     add(to, &answer, sizeof answer);
-    for (int i = 0; i < 4; i++) {
+    for (int i = 0; i < TEXT_CALLS; i++) {
         size_t need;
-        uint8_t *text = add_text(to, calls[i], budget, page, length, &need);
+        uint8_t *text = add_text(to, text_calls[i].call, budget, page, length, &need);
         if (i == 0) add_made(to, text, need);
         free(text);
     }

@@ -86,13 +86,10 @@ static void answer_text(text_call *call, uint32_t budget, const uint8_t *page, s
     free(text.bytes);
 }
 
-// A page in pieces has the answer of the whole, wherever it is cut: in two, or all along.
+// A page in pieces has the answer of the whole, whatever their size.
 static void try_pieces(uint32_t budget, const uint8_t *page, size_t length, struct naplps_answer whole) {
-    for (size_t size = 1; size <= 3; size++) {
-        must(are_equal(check_pieces(budget, page, length, size), whole), "small pieces have another answer");
-    }
-    for (size_t cut = length / 2; cut < length; cut += 1 + length / 64) {
-        must(are_equal(check_pieces(budget, page, length, cut + 1), whole), "two pieces have another answer");
+    for (size_t size = 1; size <= length + 1; size += 1 + size / 16) {
+        must(are_equal(check_pieces(budget, page, length, size), whole), "pieces have another answer");
     }
 }
 

@@ -5,7 +5,6 @@ AddressSanitizer and under valgrind.
 """
 import os
 import re
-import shutil
 import subprocess
 import sys
 from pathlib import Path
@@ -19,6 +18,7 @@ from dev.layout import LIBRARY, SONAME, TOP
 from dev.vectors.lines import rows
 from dev.vectors.rows import Vector
 from dev.vectors.wanted import wrong_answers, wrong_pages
+from samples import need
 
 SANITIZED = ["-O1", "-fsanitize=address,undefined", "-fno-sanitize-recover=all"]
 VALGRIND = ["valgrind", "--quiet", "--error-exitcode=9", "--leak-check=full"]
@@ -39,12 +39,6 @@ DECLARED = re.compile(r"^(?:struct naplps_\w+|bool|void) (naplps_\w+)\(", re.MUL
 
 # The words that run a program in C, by its name and how it is run.
 Command = Callable[..., List[str]]
-
-
-def need(tool: str, package: str) -> None:
-    """Skips the test where a tool isn't there."""
-    if shutil.which(tool) is None:
-        pytest.skip(f"{tool} isn't there (Debian: apt-get install {package})")
 
 
 def listed_names() -> List[str]:

@@ -25,7 +25,7 @@ from dev.vectors.wanted import wrong_answers, wrong_pages
 from module_browser import answers_in_chromium
 from module_faults import FAULTS, faulty, printed
 from module_hostile import BUDGET, pages
-from samples import needs_chromium
+from samples import need, needs_chromium
 
 BROWSER = TOP / "browser"
 TESTS = BROWSER / "module" / "tests"
@@ -68,8 +68,7 @@ Node = Callable[..., "subprocess.CompletedProcess[bytes]"]
 @pytest.fixture(scope="session")
 def module() -> Path:
     """The module, where Node can run it."""
-    if shutil.which("node") is None:
-        pytest.skip("node isn't there (Debian: apt-get install nodejs)")
+    need("node", "nodejs")
     version = subprocess.run(["node", "--version"], stdout=subprocess.PIPE, encoding="ascii").stdout.strip()
     if int(re.sub(r"v(\d+).*", r"\1", version)) < 18:
         pytest.skip(f"Node {version} is here, and 18 or later is needed")
@@ -246,22 +245,35 @@ def test_package_has_a_command(package: Path) -> None:
     assert result == Answer(0, b"accepted 1 entries\n"), str(result)
 
 
-def test_example_of_the_document(package: Path) -> None:
-    """The example of docs/LIBRARY.md, with the package, prints what stands after it."""
+def javascript_example() -> Tuple[str, bytes]:
+    """The program in JavaScript of docs/LIBRARY.md, and what it prints."""
     text = (TOP / "docs" / "LIBRARY.md").read_text("utf-8")
     found = re.search(r"```js\n(.*?)```\n\nprints\n\n((?:    [^\n]*\n)+)", text, re.DOTALL)
     assert found is not None, "docs/LIBRARY.md has no example in JavaScript"
-    text = found[1].replace('"./browser/module/naplps.mjs"', '"naplps"')
+    return found[1], re.sub("^    ", "", found[2], flags=re.MULTILINE).encode()
+
+
+def test_example_of_the_document(package: Path) -> None:
+    """The example of docs/LIBRARY.md, with the package, prints what stands after it."""
+    script, printed = javascript_example()
+    script = script.replace('"./browser/module/naplps.mjs"', '"naplps"')
     example = package.parents[1] / "example.mjs"
-    example.write_text(re.sub(r"load\(new URL\(.*\)\)", "load()", text), "utf-8")
-    result = run(["node", str(example)], cwd=example.parent)
-    assert result == Answer(0, re.sub("^    ", "", found[2], flags=re.MULTILINE).encode()), str(result)
+    example.write_text(re.sub(r"load\(new URL\(.*\)\)", "load()", script), "utf-8")
+    assert run(["node", str(example)], cwd=example.parent) == Answer(0, printed)
+
+
+def test_example_at_the_top(module: Path, tmp_path: Path) -> None:
+    """The example of docs/LIBRARY.md, at the top of a clone, prints what stands after it."""
+    script, printed = javascript_example()
+    for name in ("browser", "dist"):
+        (tmp_path / name).symlink_to(TOP / name)
+    (tmp_path / "example.mjs").write_text(script, "utf-8")
+    assert run(["node", "example.mjs"], cwd=tmp_path) == Answer(0, printed)
 
 
 def test_types(tmp_path: Path) -> None:
     """TypeScript finds no fault in naplps.mjs, and its types are those of naplps.d.mts."""
-    if shutil.which("tsc") is None:
-        pytest.skip("tsc isn't there (Debian: apt-get install node-typescript)")
+    need("tsc", "node-typescript")
     source = BROWSER / "module" / "naplps.mjs"
     words = ["tsc", "--allowJs", "--target", "es2022", "--module", "es2022", "--moduleResolution", "node", "--lib",
              "es2022,dom", str(source)]
@@ -309,8 +321,7 @@ def test_hostile_pages(naplps: str, node: Node, tmp_path: Path) -> None:
 @pytest.fixture(scope="module")
 def text_of_the_module(module: Path, tmp_path_factory: pytest.TempPathFactory) -> str:
     """The text of the module, as binaryen prints it."""
-    if shutil.which("wasm-dis") is None:
-        pytest.skip("binaryen isn't there (Debian: apt-get install binaryen)")
+    need("wasm-dis", "binaryen")
     return printed(module, tmp_path_factory.mktemp("text"))
 
 

@@ -8,21 +8,14 @@ from pathlib import Path
 import pytest
 
 from dev.layout import TOP
-from dev.packaging.for_browsers import FOLDER, MADE, PAGE, faults_of, make_page
+from dev.packaging.for_browsers import FOLDER, MADE, PAGE, make_page
 from dev.packaging.for_pages import PLAYER, player_scripts
-from dev.packaging.kept import ARCHIVE, KEPT
 from naplps_pages import player
 
 RENEW = "(python3 -m dev.browser --page makes it anew)"
 # What the page is made of, beside VERSION.
 SOURCES = ("browser", "python/naplps", "python/naplps_pages", "dev", "dist/browser")
 ELSEWHERE = {"TZ": "Asia/Kathmandu", "LC_ALL": "C", "PYTHONHASHSEED": "7", "PYTHONDONTWRITEBYTECODE": "1"}
-
-
-def test_page_is_that_of_made() -> None:
-    """MADE has the checksum of the page."""
-    faults = faults_of(KEPT / ARCHIVE)
-    assert PAGE not in faults, f"{faults[PAGE]} {RENEW}"
 
 
 @pytest.mark.parametrize("name", [PAGE, MADE.name])

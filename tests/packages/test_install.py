@@ -5,7 +5,7 @@ import resource
 import shutil
 import stat
 from pathlib import Path
-from typing import Callable, Dict, Tuple
+from typing import Callable, Dict, Tuple, Union
 
 import pytest
 
@@ -110,23 +110,18 @@ def test_name_that_leads_out_of_the_prefix_is_refused(prefix: Prefix, tmp_path: 
 
 
 @pytest.mark.parametrize("option", ["", "--remove"])
-@pytest.mark.parametrize("text", NO_LISTS, ids=lambda text: ascii(text[:16]))
-def test_list_of_another_form_is_refused(prefix: Prefix, text: bytes, option: str) -> None:
-    """A file that isn't such a list is refused, and nothing changes."""
+@pytest.mark.parametrize("text", [*NO_LISTS, "pipe", "folder", "link"], ids=lambda text: ascii(text[:16]))
+def test_list_of_another_form_is_refused(prefix: Prefix, text: Union[bytes, str], option: str) -> None:
+    """A file that isn't such a list, or is no file, is refused, and nothing changes."""
     prefix.write("bin/other")
-    prefix.write(LIST, text)
+    prefix.write("lib/naplps/other")
+    if isinstance(text, bytes):
+        prefix.write(LIST, text)
+    else:
+        KINDS[text](prefix.path / LIST)
     before = prefix.listing()
     prefix.refuses(*option.split())
     assert prefix.listing() == before
-
-
-@pytest.mark.parametrize("kind", ["pipe", "folder", "link"])
-def test_list_that_is_no_file_is_refused(prefix: Prefix, kind: str) -> None:
-    """What stands in the place of a list stays."""
-    prefix.write("lib/naplps/other")
-    KINDS[kind](prefix.path / LIST)
-    prefix.refuses("--remove")
-    assert os.path.lexists(prefix.path / LIST)
 
 
 @pytest.mark.parametrize("name, kind", [

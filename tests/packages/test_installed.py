@@ -26,7 +26,7 @@ COMMANDS: Tuple[Tuple[str, bytes, bytes], ...] = (
     ("naplps batch", b"canon 0 3\n\x0e\x27\x52", b"accepted 1 entries\n12\n" + CANON),
     ("naplps-pages --version", b"", f"naplps-pages {sources_version()}\n".encode()),
     ("naplps-pages check -", POINT, b"accepted 1 entries\n"),
-    ("naplps-pages look @/logo.nap", b"", (TOP / "examples" / "gallery" / "logo.nap.svg").read_bytes()),
+    ("naplps-pages show @/logo.nap", b"", (TOP / "examples" / "gallery" / "logo.nap.svg").read_bytes()),
 )
 
 

@@ -148,14 +148,13 @@ def test_comments_need_no_proof(tree: Tree) -> None:
     assert dict(line.split(": ", 1) for line in tree.record.read_text("ascii").splitlines()) == renewed
 
 
-@pytest.mark.parametrize("reason, settings", [
-    ("rt ci didn't pass", {"RUINED": "1"}),
-    ("no verdict on nap_c", {"VERDICT": "logic=unproved"}),
-    ("a source changed meanwhile", {"MEANWHILE": "echo other > crates/nap_low/src/lib.rt"}),
-], ids=lambda row: row if isinstance(row, str) else "")
-def test_what_is_not_proved_is_refused(tree: Tree, reason: str, settings: Dict[str, str]) -> None:
+@pytest.mark.parametrize("reason, name, text", [
+    ("rt ci didn't pass", "RUINED", "1"), ("no verdict on nap_c", "VERDICT", "logic=unproved"),
+    ("a source changed meanwhile", "MEANWHILE", "echo other > crates/nap_low/src/lib.rt"),
+])
+def test_what_is_not_proved_is_refused(tree: Tree, reason: str, name: str, text: str) -> None:
     """Where `rt ci` fails, or the library isn't proved, or a source changes meanwhile, dist stays."""
-    tree.refuses(reason, **settings)
+    tree.refuses(reason, **{name: text})
 
 
 @pytest.mark.parametrize("line, reason", [

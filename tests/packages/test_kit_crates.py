@@ -9,13 +9,8 @@ from dev.crates import crates_in
 from dev.layout import TOP
 
 # Those that the program has to use, and where.
-REQUIRED = {
-    "arrayvec": "nap_values",
-    "smallvec": "nap_reader",
-    "thiserror": "nap_canon",
-    "clap": "nap_cli",
-    "hex": "nap_command",
-}
+REQUIRED = {"arrayvec": "nap_values", "smallvec": "nap_reader", "thiserror": "nap_canon", "clap": "nap_cli",
+            "hex": "nap_command"}
 # What only tries the program is in no package.
 TESTING = {"nap_tests", "nap_rows", "naplps_examples"}
 ROW = re.compile(r"^\| (\w+) \| [^|]+ \| ((?:\w+(?:, )?)+) \|$", re.MULTILINE)

@@ -88,15 +88,10 @@ def test_dpkg_buildpackage_alone_gives_the_same_bytes(packages: List[Path], part
         assert (tmp_path / package.name).read_bytes() == package.read_bytes(), package.name
 
 
-def test_program_has_the_bytes_that_were_proved(packages: List[Path], parts: Parts) -> None:
-    """It is neither stripped nor compiled."""
-    total = hashlib.sha256(contents(packages[0])["usr/bin/naplps"]).hexdigest()
-    assert total == hashlib.sha256(parts.program.read_bytes()).hexdigest()
-
-
 @pytest.mark.parametrize("name", NAMES)
 def test_package_has_the_files(package: Path, expected: Dict[str, Expected]) -> None:
-    """It has these files and no others, each with the bytes of its source."""
+    """It has these files and no others, each with the bytes of its source; the program is neither stripped nor
+    compiled."""
     data = contents(package)
     assert set(data) == set(expected), f"the files differ: {sorted(set(data) ^ set(expected))}"
     for path, file in expected.items():

@@ -7,7 +7,7 @@ leave out what the environment says of others.
 import os
 import sys
 from pathlib import Path
-from typing import Dict, List, NamedTuple
+from typing import Dict, List
 
 import pytest
 
@@ -39,17 +39,9 @@ SETTINGS: Dict[str, Dict[str, str]] = {
 }
 
 
-class Command(NamedTuple):
-    """A command, and whether it runs at the top of the sources."""
-
-    words: List[str]
-    is_at_top: bool = False
-
-
 COMMANDS = {
-    "install": Command([str(TOP / "scripts" / "install")]),
-    "make-library": Command([str(TOP / "library" / "make-library")]),
-    "package": Command(["/usr/bin/python3", "-E", "-s", "-m", "dev.package"], True),
+    "install": [str(TOP / "scripts" / "install")], "make-library": [str(TOP / "library" / "make-library")],
+    "package": ["/usr/bin/python3", "-E", "-s", "-m", "dev.package"],
 }
 
 
@@ -71,11 +63,11 @@ class Strange:
             os.link(evil, folder / name)
         folder.chmod(0o777)  # (a folder that only its owner may write is trusted)
 
-    def run(self, command: Command, words: List[str], settings: Dict[str, str]) -> Answer:
+    def run(self, command: str, words: List[str], settings: Dict[str, str]) -> Answer:
         """Runs a command, of which nothing of the folder may run."""
         named = {name: text.replace("@", str(self.folder)) for name, text in settings.items()}
-        place = TOP if command.is_at_top else self.folder
-        result = run([*command.words, *words], cwd=place, env={**USUAL, **named})
+        place = TOP if command == "package" else self.folder
+        result = run([*COMMANDS[command], *words], cwd=place, env={**USUAL, **named})
         assert not self.ran.exists(), f"something of the folder ran: {result}"
         return result
 
@@ -90,7 +82,7 @@ def strange(tmp_path_factory: pytest.TempPathFactory) -> Strange:
 @pytest.mark.parametrize("name", COMMANDS)
 def test_command_starts(strange: Strange, name: str, settings: str) -> None:
     """It prints its help whatever one group of variables says."""
-    result = strange.run(COMMANDS[name], ["--help"], SETTINGS[settings])
+    result = strange.run(name, ["--help"], SETTINGS[settings])
     assert result.status == 0 and result.out.startswith(b"usage: ") and not result.err, str(result)
 
 
@@ -102,6 +94,6 @@ def test_command_does_all_of_its_work(request: pytest.FixtureRequest, strange: S
         request.getfixturevalue("packages")
     settings = {key: text for group in SETTINGS.values() for key, text in group.items()}
     settings["PATH"] = ":.:@:/proc/self/cwd:/usr/bin:/bin"
-    result = strange.run(COMMANDS[name], [str(tmp_path / "made")], settings)
+    result = strange.run(name, [str(tmp_path / "made")], settings)
     assert result.status == 0 and not result.err, str(result)
     assert any((tmp_path / "made").rglob("*naplps*")), f"{name} made nothing"

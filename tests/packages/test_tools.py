@@ -57,25 +57,16 @@ def install(folder: Path, fails: str = "") -> Installed:
     return Installed(result.returncode, result.stdout, calls.read_text("ascii").split())
 
 
-def test_apt_get_has_all_the_time_that_it_needs(tmp_path: Path) -> None:
-    """What it prints is seen."""
-    result = install(tmp_path)
-    assert (result.status, result.calls) == (0, ["update", "install"]), result.output
-    for line in ("apt-get is at work: install", "W: a warning of install", "W: a warning of update"):
-        assert line in result.output.splitlines(), f"'{line}' isn't seen: {result.output}"
-
-
-def test_failed_installation_is_the_status(tmp_path: Path) -> None:
-    """It is told, too."""
-    result = install(tmp_path, "install")
-    assert (result.status, result.calls) == (100, ["update", "install"]), result.output
-    assert "W: a warning of install" in result.output and "couldn't be installed" in result.output
-
-
-def test_failed_update_ends_nothing(tmp_path: Path) -> None:
-    """Other lists may have all that is needed."""
-    result = install(tmp_path, "update")
-    assert (result.status, result.calls) == (0, ["update", "install"]), result.output
+@pytest.mark.parametrize("fails, status, lines", [
+    ("", 0, ["apt-get is at work: install", "W: a warning of install", "W: a warning of update"]),
+    ("install", 100, ["W: a warning of install", "couldn't be installed"]), ("update", 0, []),
+], ids=["nothing", "install", "update"])
+def test_apt_get_has_all_the_time_that_it_needs(tmp_path: Path, fails: str, status: int, lines: List[str]) -> None:
+    """What it prints is seen. A failed installation is told, and is the status; a failed update ends nothing, since
+    other lists may have all that is needed."""
+    result = install(tmp_path, fails)
+    assert (result.status, result.calls) == (status, ["update", "install"]), result.output
+    assert [line for line in lines if line not in result.output] == [], result.output
 
 
 @pytest.mark.parametrize("options", [[], ["--without-proofs"]], ids=["proofs", "without-proofs"])

@@ -38,38 +38,25 @@ def test_target_is_taken_out() -> None:
     (code().replace("n8:16:32:64", "n32:64"), "datalayout"),
     (code().replace("x86_64-unknown", "aarch64-unknown"), "triple"),
     (code(LAYOUT), "datalayout"),
-], ids=["layout", "triple", "two layouts"])
-def test_another_target_is_refused(text: str, reason: str) -> None:
-    """Another layout or triple, and a second one, end it."""
-    with pytest.raises(NotMade, match=reason):
-        neutral(text)
-
-
-@pytest.mark.parametrize("line", [
-    "declare <16 x i8> @llvm.x86.ssse3.pshuf.b.128(<16 x i8>, <16 x i8>)",
-    'call void asm sideeffect "nop", ""()',
-    "  %1 = load ptr addrspace(1), ptr %a",
-    "  %1 = fadd double %a, %b",
-    "  %1 = cmpxchg ptr %a, i32 0, i32 1 seq_cst seq_cst",
-    "@x = thread_local global i8 0",
-    "define x86_stdcallcc void @f() {",
-    "declare void @llvm.va_start.p0(ptr)",
-    'attributes #2 = { nounwind "unheard-of"="yes" }',
-])
-def test_code_of_one_processor_is_refused(line: str) -> None:
-    """Instructions, types and functions of one processor, or that weren't thought of, end it."""
-    with pytest.raises(NotMade, match="expected"):
-        neutral(code(line))
-
-
-@pytest.mark.parametrize("text, reason", [
     (code(naplps_check="ptr (ptr, i64, ptr, i64)"), "naplps_check has the type"),
     (code(naplps_is_plain="i8 (ptr, i64)"), "naplps_is_plain has the type i8"),
     (code(rattle_alloc="ptr (i64, i64)"), "rattle_alloc has the type"),
     (code().replace("naplps_make", "naplps_made"), "naplps_make .* it is missing"),
-], ids=["operands", "answer", "declared", "missing"])
-def test_call_of_another_type_is_refused(text: str, reason: str) -> None:
-    """A call of another type, or none, ends it."""
+    *((code(line), "expected") for line in (
+        "declare <16 x i8> @llvm.x86.ssse3.pshuf.b.128(<16 x i8>, <16 x i8>)",
+        'call void asm sideeffect "nop", ""()',
+        "  %1 = load ptr addrspace(1), ptr %a",
+        "  %1 = fadd double %a, %b",
+        "  %1 = cmpxchg ptr %a, i32 0, i32 1 seq_cst seq_cst",
+        "@x = thread_local global i8 0",
+        "define x86_stdcallcc void @f() {",
+        "declare void @llvm.va_start.p0(ptr)",
+        'attributes #2 = { nounwind "unheard-of"="yes" }',
+    )),
+], ids=lambda text: "" if "\n" in text else text)
+def test_code_that_is_not_expected_is_refused(text: str, reason: str) -> None:
+    """Another layout or triple, and a second one, a call of another type, or none, and instructions, types and
+    functions of one processor, or that weren't thought of, end it."""
     with pytest.raises(NotMade, match=reason):
         neutral(text)
 

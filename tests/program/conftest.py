@@ -1,6 +1,5 @@
 """What the tests of the program share."""
 import os
-import shutil
 import subprocess
 from pathlib import Path
 
@@ -8,6 +7,7 @@ import pytest
 
 from faults import Faults, build_library
 from long_pages import write_long
+from samples import need
 
 
 # The program itself, with calls that fail and with long pages.
@@ -25,8 +25,7 @@ def program_file(naplps: str) -> str:
 @pytest.fixture(scope="session")
 def faults(program_file: str, tmp_path_factory: pytest.TempPathFactory) -> Faults:
     """The program beside the library that makes its calls fail."""
-    if shutil.which("cc") is None:
-        pytest.skip("cc isn't there")
+    need("cc", "gcc")
     folder = tmp_path_factory.mktemp("faults")
     build_library(folder)
     return Faults(program_file, folder)

@@ -1,6 +1,5 @@
 """`naplps batch` on rows of streams and on random pages; and the clients that docs/BATCH.md shows."""
-import os
-import random
+import re
 import subprocess
 import sys
 from functools import lru_cache
@@ -11,9 +10,11 @@ import pytest
 
 from batch_requests import USUAL, answer, check_answers, request, take_answer
 from command import TOP
+from dev.fuzzing.streams import Streams
 from dev.judging import Answer, run
 from dev.vectors.crate_rows import Row, rows_of
 from dev.vectors.lines import rows as rows_of_lines
+from shells import with_naplps
 
 DATA = Path(TOP, "crates", "nap_rows", "data")
 EXAMPLES = Path(TOP, "examples")
@@ -97,23 +98,6 @@ def test_rows_of_lines(naplps: str) -> None:
     check_answers(batch(naplps, [request("make", 0, row.lines) for row in rows]), answers)
 
 
-def random_page(source: random.Random) -> bytes:
-    """A page of opcodes with operands, characters and a few other bytes."""
-    parts = [b"\x0e"]
-    for _ in range(source.randrange(12)):
-        kind = source.randrange(6)
-        if kind < 3:
-            parts.append(bytes([source.randrange(0x20, 0x40)]))
-            parts.append(bytes(source.randrange(0x40, 0x80) for _ in range(source.randrange(9))))
-        elif kind == 3:
-            parts.append(b"\x0f" + bytes(source.randrange(0x20, 0x7F) for _ in range(source.randrange(5))) + b"\x0e")
-        elif kind == 4:
-            parts.append(b"\x1b" + bytes([source.randrange(0x40, 0x60)]))
-        else:
-            parts.append(bytes([source.randrange(256)]))
-    return b"".join(parts)
-
-
 def answers_of_commands(naplps: str, page: bytes) -> List[Tuple[str, bytes]]:
     """The commands, and the answers of each as a process of its own gives them."""
     line = run_on(naplps, "check", page).out.decode().rstrip("\n")
@@ -123,9 +107,9 @@ def answers_of_commands(naplps: str, page: bytes) -> List[Tuple[str, bytes]]:
 
 def test_answers_are_those_of_the_commands(naplps: str) -> None:
     """On the pages of the examples, and on a thousand random ones."""
-    source = random.Random(20261125)
+    streams = Streams(20261125)
     pages = [path.read_bytes() for path in sorted(EXAMPLES.rglob("*.nap"))]
-    pages += [random_page(source) for _ in range(1000)]
+    pages += [streams.next()[1] for _ in range(1000)]
     requests, answers = [], []
     for page in pages:
         for command, expected in answers_of_commands(naplps, page):
@@ -141,9 +125,9 @@ def lines_before(body: bytes, end: int) -> List[bytes]:
 
 def test_places_of_a_page_are_those_of_its_beginnings(naplps: str) -> None:
     """The places of a page's first bytes, and before them, are those of the page."""
-    source = random.Random(41)
+    streams = Streams(41)
     for _ in range(100):
-        page = random_page(source)
+        _, page = streams.next()
         whole = batch(naplps, [request("places", USUAL, page)]).split(b"\n", 2)[2]
         listed = run_on(naplps, "list", page)
         if listed.status == 0:
@@ -156,38 +140,19 @@ def test_places_of_a_page_are_those_of_its_beginnings(naplps: str) -> None:
             assert lines_before(body, end) == lines_before(whole, end), f"the first {end} bytes of {page.hex()}"
 
 
-class TestDocument:
-    """The clients that BATCH.md shows, on the pages of the examples."""
-
-    PAGE = EXAMPLES / "page.nap"
-    PAGES = sorted((EXAMPLES / "pages").glob("*.nap"))
-
-    @staticmethod
-    def run(naplps: str, folder: Path, words: List[str]) -> str:
-        """The output of a client that finds the program by its name."""
-        (folder / "naplps").symlink_to(naplps)
-        env = {**os.environ, "PATH": f"{folder}:{os.environ['PATH']}"}
-        return run(words, env=env, cwd=TOP).out.decode()
-
-    @staticmethod
-    def shells() -> List[str]:
-        """The blocks of shell."""
-        return [part.split("```")[0] for part in BATCH.read_text("utf-8").split("```sh\n")[1:]]
-
-    def test_python(self, naplps: str, tmp_path: Path) -> None:
-        text = BATCH.read_text("utf-8")
-        code = text[text.index("import subprocess, sys\nnaplps = "):].split("```")[0]
-        pages = [self.PAGE, *self.PAGES]
-        expected = ""
-        for page in pages:
-            line = run_on(naplps, "check", page.read_bytes()).out.decode().strip()
-            expected += f"{page} {line} {run_on(naplps, 'canon', page.read_bytes()).out.hex()}\n"
-        assert self.run(naplps, tmp_path, [sys.executable, "-c", code, *map(str, pages)]) == expected
-
-    def test_shell_for_one_page(self, naplps: str, tmp_path: Path) -> None:
-        expected = run_on(naplps, "check", self.PAGE.read_bytes()).out.decode() + "0\n"
-        assert self.run(naplps, tmp_path, ["sh", "-c", self.shells()[0]]) == expected
-
-    def test_shell_for_a_folder(self, naplps: str, tmp_path: Path) -> None:
-        expected = "".join(run_on(naplps, "check", page.read_bytes()).out.decode() for page in self.PAGES)
-        assert self.run(naplps, tmp_path, ["sh", "-c", self.shells()[1]]) == expected
+def test_clients_of_the_document(naplps: str, tmp_path: Path) -> None:
+    """The clients that BATCH.md shows find the program by its name, and ask it about the pages of the examples."""
+    pages = [EXAMPLES / "page.nap", *sorted((EXAMPLES / "pages").glob("*.nap"))]
+    checked, canonical = ([run_on(naplps, command, page.read_bytes()).out for page in pages]
+                          for command in ("check", "canon"))
+    text = BATCH.read_text("utf-8")
+    [of_one, of_folder] = re.findall("^```sh\n(.*?)^```", text, re.DOTALL | re.MULTILINE)
+    [code] = re.findall("^```python\n(.*?)^```", text, re.DOTALL | re.MULTILINE)
+    rows = [f"{page} {line.decode()[:-1]} {data.hex()}\n" for page, line, data in zip(pages, checked, canonical)]
+    clients = [
+        (["sh", "-c", of_one], checked[0] + b"0\n"), (["sh", "-c", of_folder], b"".join(checked[1:])),
+        ([sys.executable, "-c", code, *map(str, pages)], "".join(rows).encode()),
+    ]
+    env = with_naplps(naplps, tmp_path / "bin")
+    for words, expected in clients:
+        assert run(words, env=env, cwd=TOP).out == expected, words

@@ -10,13 +10,15 @@ import shutil
 import subprocess
 import tempfile
 from pathlib import Path
-from typing import Any, Callable, Dict, Iterator, List, NamedTuple, Optional, Tuple
+from typing import Any, Dict, Iterator, List, NamedTuple, Optional
 
 import pytest
 
 from command import NOBODY
 from dev.judging import Answer, run
 from dev.layout import TOP
+from fault_pages import LONG
+from samples import has, lack
 from shells import answer, with_naplps
 
 DOCUMENT = TOP / "docs" / "SHELL.md"
@@ -72,37 +74,21 @@ def recipe(name: str) -> str:
     return found[1]
 
 
-def convert() -> str:
-    """The recipe that converts."""
-    return recipe("convert")
-
-
-def convert_streamed() -> str:
-    """The recipe that converts, as the document says to change it for long pages."""
-    return changed("naplps canon", "naplps canon --stream")
-
-
-def convert_by_parallel() -> str:
-    """The recipe that converts, with GNU parallel in place of xargs."""
-    if b"GNU parallel" not in run(["sh", "-c", "parallel --version"], stdin=subprocess.DEVNULL).out:
-        pytest.skip("GNU parallel isn't there")
-    return changed("xargs -0 -n 16 -P 4", "parallel -0 -q -n 16 -j 4")
-
-
-def changed(text: str, other: str) -> str:
+def converting(text: str, other: str) -> str:
     """The recipe that converts, with another text in place of one."""
     assert text in recipe("convert"), f"the recipe convert has no {text}"
     return recipe("convert").replace(text, other)
 
 
-def table() -> str:
-    """The recipe that makes a table."""
-    if shutil.which("sqlite3") is None:
-        pytest.skip("sqlite3 isn't there")
-    return recipe("table")
-
-
-CONVERTING = [convert, convert_streamed, convert_by_parallel]
+has_parallel = b"GNU parallel" in run(["sh", "-c", "parallel --version"], stdin=subprocess.DEVNULL).out
+needs_parallel = pytest.mark.skipif(not has_parallel, reason="GNU parallel isn't there")
+needs_sqlite3 = pytest.mark.skipif(not has("sqlite3"), reason=lack("sqlite3"))
+# As it is, as the document says to change it for long pages, and with GNU parallel in place of xargs.
+CONVERTING = [
+    pytest.param(recipe("convert"), id="convert"),
+    pytest.param(converting("naplps canon", "naplps canon --stream"), id="streamed"),
+    pytest.param(converting("xargs -0 -n 16 -P 4", "parallel -0 -q -n 16 -j 4"), id="parallel", marks=needs_parallel),
+]
 
 
 def files_in(folder: Path) -> Dict[str, bytes]:
@@ -178,11 +164,6 @@ class Folder:
     def canonical(self) -> Dict[str, Optional[bytes]]:
         """The canonical pages."""
         return {name: example.canonical for name, example in self.accepted().items()}
-
-
-def entries_of(example: Example) -> int:
-    """How many entries an accepted page has."""
-    return int(example.answer.split(" ")[1])
 
 
 @pytest.fixture
@@ -261,66 +242,45 @@ def test_equal(folder: Folder) -> None:
 
 
 @pytest.mark.parametrize("script", CONVERTING)
-def test_converted(folder: Folder, script: Callable[[], str]) -> None:
+def test_converted(folder: Folder, script: str) -> None:
     """A recipe makes the canonical pages, once, and reports the others."""
-    result = folder.run(script())
+    result = folder.run(script)
     assert (result.out, lines_of(result.err)) == (b"", folder.refused())
     assert files_in(folder.canonical_pages) == folder.canonical()
-    assert folder.run(script()).status != 0, "it converted twice"
+    assert folder.run(script).status != 0, "it converted twice"
 
 
+@needs_sqlite3
 def test_table(folder: Folder) -> None:
     """The recipe makes the table of pages, anew each time, and reports the others."""
-    expected = sorted(f"{os.fsencode('./' + name).hex()}|{example.hash}|{entries_of(example)}".encode()
+    expected = sorted(f"{os.fsencode('./' + name).hex()}|{example.hash}|{example.answer.split()[1]}".encode()
                       for name, example in folder.accepted().items())
     for _ in range(2):
-        result = folder.run(table())
+        result = folder.run(recipe("table"))
         assert (result.out, lines_of(result.err)) == (b"", folder.refused())
         query = "SELECT lower(hex(page)), hash, entries FROM pages"
         assert lines_of(run(["sqlite3", "-batch", str(folder.above / "pages.db"), query]).out) == expected
 
 
+@needs_sqlite3
 def test_questions(example_pages: Folder) -> None:
     """The two questions to the table print the pages in it, and the equal ones."""
-    example_pages.run(table())
-    rows = sorted(f"{example.hash}|{entries_of(example)}|./{name}".encode()
+    example_pages.run(recipe("table"))
+    rows = sorted(f"{example.hash}|{example.answer.split()[1]}|./{name}".encode()
                   for name, example in example_pages.accepted().items())
     assert lines_of(example_pages.run(recipe("table-shown")).out) == rows
     equal = [line.replace(b" ", b"|", 1) for line in example_pages.equal()]
     assert lines_of(example_pages.run(recipe("table-equal")).out) == equal
 
 
-@pytest.fixture
-def long(empty: Folder) -> Tuple[Folder, bytes]:
-    """A folder with a page of many reads and writes, and one that is refused after its last byte; and the canonical
-    bytes of the first."""
-    data = b"\x0e" + b"&R@@" * 30_000
-    (empty.pages / "long.nap").write_bytes(data)
-    (empty.pages / "cut.nap").write_bytes(data + b"\x1b")
-    # A run has 2,048 points, of which the first comes after the opcode.
-    points = ((b"" if number % 2048 else b"&") + b"R@@@@@@@" for number in range(30_000))
-    return empty, b"\x0e!_" + b"".join(points)
-
-
-def test_long_page_is_accepted(naplps: str, long: Tuple[Folder, bytes]) -> None:
-    """A long page is accepted."""
-    assert answer(naplps, "check", (long[0].pages / "long.nap").read_bytes()) == Answer(0, b"accepted 30000 entries\n")
-
-
 @pytest.mark.parametrize("script", CONVERTING)
-def test_long_page(long: Tuple[Folder, bytes], script: Callable[[], str]) -> None:
-    """A long page is converted, and one that is refused after its last byte is reported."""
-    folder, canonical = long
-    result = folder.run(script())
+def test_long_page(empty: Folder, script: str) -> None:
+    """A page of many reads and writes is converted, and one that is refused after its last byte is reported."""
+    (empty.pages / "long.nap").write_bytes(LONG.stream)
+    (empty.pages / "cut.nap").write_bytes(LONG.stream + b"\x1b")
+    result = empty.run(script)
     assert (result.out, result.err) == (b"", b"./cut.nap: refused 19 Cut at 120002\n")
-    assert files_in(folder.canonical_pages) == {"long.nap": canonical}
-
-
-def test_bytes_before_a_refusal(naplps: str, long: Tuple[Folder, bytes]) -> None:
-    """`canon --stream` writes the canonical bytes of what comes before a refusal."""
-    folder, canonical = long
-    result = answer(naplps, "canon --stream", (folder.pages / "cut.nap").read_bytes())
-    assert result == Answer(1, canonical, b"refused 19 Cut at 120002\n")
+    assert files_in(empty.canonical_pages) == {"long.nap": LONG.canonical}
 
 
 @pytest.fixture
@@ -346,15 +306,15 @@ def locked(naplps: str) -> Iterator[Folder]:
         (folder.pages / "locked folder").chmod(0o700)
 
 
-@pytest.mark.parametrize("script", [lambda: recipe("refused"), lambda: recipe("equal"), *CONVERTING, table],
-                         ids=["refused", "equal", *(script.__name__ for script in CONVERTING), "table"])
-def test_unreadable(locked: Folder, script: Callable[[], str]) -> None:
+@pytest.mark.parametrize("script", [
+    pytest.param(recipe("refused"), id="refused"), pytest.param(recipe("equal"), id="equal"), *CONVERTING,
+    pytest.param(recipe("table"), id="table", marks=needs_sqlite3)])
+def test_unreadable(locked: Folder, script: str) -> None:
     """Pages and a folder that can't be read are reported by each recipe, and the others are as before."""
-    text = script()
-    result = locked.run(text)
+    result = locked.run(script)
     assert re.search(rb"^\./locked page\.nap: .*ermission denied", result.out + result.err, re.MULTILINE), f"{result}"
     assert re.search(rb"locked folder.*ermission denied", result.err), f"{result}"
-    if text == recipe("equal"):
+    if script == recipe("equal"):
         assert lines_of(result.out) == locked.equal()
     if locked.canonical_pages.exists():
         assert files_in(locked.canonical_pages) == locked.canonical()
@@ -377,7 +337,7 @@ def test_no_program(broken: Folder) -> None:
 
 
 @pytest.mark.parametrize("script", CONVERTING)
-def test_no_canonical_page(broken: Folder, script: Callable[[], str]) -> None:
+def test_no_canonical_page(broken: Folder, script: str) -> None:
     """Of a program that answers nothing there is no canonical page."""
-    assert b"./point.nap: " in broken.run(script()).err
+    assert b"./point.nap: " in broken.run(script).err
     assert files_in(broken.canonical_pages) == {}

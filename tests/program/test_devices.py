@@ -4,30 +4,18 @@ import pty
 import subprocess
 import termios
 from pathlib import Path
-from typing import Any, Callable, Tuple
+from typing import Any, Callable, Dict, IO, Iterator, Tuple
 
 import pytest
 
 from dev.judging import Answer, fault, run
-from fault_pages import CENTRE, CENTRE_LINE, HEADER, Words, name_of
+from fault_pages import CENTRE, CENTRE_LINE, HEADER, POINT, Page, Words, name_of
 
-POINT = bytes.fromhex("0e26524040")
-REFUSED = bytes.fromhex("0e26524040287f")
-REFUSAL = b"refused 10 Outside at 5\n"
-EMPTY = {"list": b"", "check": b"accepted 0 entries\n", "canon": HEADER}
+REFUSED = Page("refused", "0e26524040287f", [CENTRE], [CENTRE_LINE], "refused 10 Outside at 5")
+EMPTY = Page("empty", b"")
 WRITE_FAULT = fault(b"write fault after 0 bytes")
 commands = pytest.mark.parametrize("words", [["list"], ["check"], ["canon"], ["canon", "--stream"]], ids=name_of)
 full_device = pytest.mark.skipif(not os.path.exists("/dev/full"), reason="there is no /dev/full")
-
-
-def answer_of(words: Words, is_refused: bool) -> Answer:
-    """The answer of a command to the point, or to the point and a line after it that leads outside."""
-    if words == ["check"]:
-        return Answer(1, REFUSAL) if is_refused else Answer(0, b"accepted 1 entries\n")
-    output = {"list": CENTRE_LINE.encode() + b"\n", "canon": HEADER + CENTRE}[words[0]]
-    if not is_refused:
-        return Answer(0, output)
-    return Answer(1, output if "--stream" in words else b"", REFUSAL)
 
 
 def read_fault(words: Words) -> Answer:
@@ -43,26 +31,33 @@ def shut(*files: int) -> Callable[[], None]:
     return close
 
 
+@pytest.fixture
+def full() -> "Iterator[IO[bytes]]":
+    """A device that is full."""
+    with open("/dev/full", "wb") as device:
+        yield device
+
+
 @commands
-@pytest.mark.parametrize("is_refused", [False, True], ids=["accepted", "refused"])
+@pytest.mark.parametrize("page", [POINT, REFUSED], ids=["accepted", "refused"])
 class TestOutputs:
     """With pages that are accepted and refused. The output is flushed also where it is empty."""
 
     @pytest.fixture
-    def check(self, program_file: str, tmp_path: Path, words: Words, is_refused: bool) -> Callable[..., None]:
+    def check(self, program_file: str, tmp_path: Path, words: Words, page: Page) -> Callable[..., None]:
         """Runs the command with outputs of its own, and compares the answer."""
         def checks(expected: Answer, **options: Any) -> None:
-            page = tmp_path / "page.nap"
-            page.write_bytes(REFUSED if is_refused else POINT)
-            with open(page, "rb") as source:
+            path = tmp_path / "page.nap"
+            path.write_bytes(page.stream)
+            with open(path, "rb") as source:
                 answer = run([program_file, *words], stdin=source, **options)
             assert answer == expected, f"{answer}, expected {expected}"
         return checks
 
     @pytest.fixture
-    def whole(self, words: Words, is_refused: bool) -> Answer:
+    def whole(self, words: Words, page: Page) -> Answer:
         """The answer where no output fails."""
-        return answer_of(words, is_refused)
+        return page.answer(words)
 
     @pytest.fixture
     def failed(self, whole: Answer) -> Answer:
@@ -70,9 +65,8 @@ class TestOutputs:
         return WRITE_FAULT if whole.out else whole
 
     @full_device
-    def test_full_device(self, check: Callable[..., None], failed: Answer) -> None:
-        with open("/dev/full", "wb") as full:
-            check(failed, stdout=full)
+    def test_full_device(self, check: Callable[..., None], failed: Answer, full: "IO[bytes]") -> None:
+        check(failed, stdout=full)
 
     def test_pipe_without_a_reader(self, check: Callable[..., None], failed: Answer) -> None:
         ending, beginning = os.pipe()
@@ -91,9 +85,8 @@ class TestOutputs:
         check(Answer(whole.status, whole.out), stderr=None, preexec_fn=shut(2))
 
     @full_device
-    def test_full_device_for_errors(self, check: Callable[..., None], whole: Answer) -> None:
-        with open("/dev/full", "wb") as full:
-            check(Answer(whole.status, whole.out), stderr=full)
+    def test_full_device_for_errors(self, check: Callable[..., None], whole: Answer, full: "IO[bytes]") -> None:
+        check(Answer(whole.status, whole.out), stderr=full)
 
     def test_closed_outputs(self, check: Callable[..., None], failed: Answer) -> None:
         check(Answer(failed.status), stdout=None, stderr=None, preexec_fn=shut(1, 2))
@@ -101,41 +94,32 @@ class TestOutputs:
 
 @full_device
 @pytest.mark.parametrize("words", [["--help"], ["list", "--help"]], ids=name_of)
-def test_help_on_a_full_device(program_file: str, words: Words) -> None:
-    with open("/dev/full", "wb") as full:
-        answer = run([program_file, *words], stdin=subprocess.DEVNULL, stdout=full)
-    assert answer == WRITE_FAULT, str(answer)
+def test_help_on_a_full_device(program_file: str, full: "IO[bytes]", words: Words) -> None:
+    assert run([program_file, *words], stdin=subprocess.DEVNULL, stdout=full) == WRITE_FAULT
 
 
 @commands
 class TestInputs:
     """Inputs that can't be read."""
 
-    def test_closed_input(self, program_file: str, words: Words) -> None:
-        answer = run([program_file, *words], stdin=None, preexec_fn=shut(0))
-        assert answer == read_fault(words), str(answer)
+    @pytest.mark.parametrize("name, flags", [("", os.O_RDONLY), ("new", os.O_WRONLY | os.O_CREAT)],
+                             ids=["a folder", "not to be read"])
+    def test_unreadable(self, program_file: str, tmp_path: Path, words: Words, name: str, flags: int) -> None:
+        unreadable = os.open(tmp_path / name, flags)
+        answer = run([program_file, *words], stdin=unreadable)
+        os.close(unreadable)
+        assert answer == read_fault(words)
 
-    def test_folder(self, program_file: str, tmp_path: Path, words: Words) -> None:
-        folder = os.open(tmp_path, os.O_RDONLY)
-        try:
-            answer = run([program_file, *words], stdin=folder)
-        finally:
-            os.close(folder)
-        assert answer == read_fault(words), str(answer)
-
-    def test_input_that_is_not_to_be_read(self, program_file: str, tmp_path: Path, words: Words) -> None:
-        with open(tmp_path / "written", "wb") as unreadable:
-            answer = run([program_file, *words], stdin=unreadable)
-        assert answer == read_fault(words), str(answer)
-
-    def test_all_three_closed(self, program_file: str, words: Words) -> None:
-        answer = run([program_file, *words], stdin=None, stdout=None, stderr=None, preexec_fn=shut(0, 1, 2))
-        assert answer == Answer(3), str(answer)
+    @pytest.mark.parametrize("closed, expected", [((0,), read_fault), ((0, 1, 2), lambda words: Answer(3))],
+                             ids=["input", "all three"])
+    def test_closed(self, program_file: str, words: Words, closed: Tuple[int, ...],
+                    expected: Callable[[Words], Answer]) -> None:
+        options: Dict[str, Any] = {name: None for name, file in (("stdout", 1), ("stderr", 2)) if file in closed}
+        assert run([program_file, *words], stdin=None, preexec_fn=shut(*closed), **options) == expected(words)
 
     @full_device
-    def test_closed_input_and_full_device(self, program_file: str, words: Words) -> None:
-        with open("/dev/full", "wb") as full:
-            answer = run([program_file, *words], stdin=None, stdout=full, preexec_fn=shut(0))
+    def test_closed_input_and_full_device(self, program_file: str, full: "IO[bytes]", words: Words) -> None:
+        answer = run([program_file, *words], stdin=None, stdout=full, preexec_fn=shut(0))
         expected = WRITE_FAULT if "--stream" in words else fault(b"read fault")
         assert answer == expected, f"{answer}, expected {expected}"
 
@@ -154,15 +138,14 @@ class TestTerminals:
     """Terminals as inputs."""
 
     # The first of the two ends sends the page, the second ends the input.
-    @pytest.mark.parametrize("typed", [b"\x04", POINT + b"\x04\x04"], ids=["nothing", "page"])
-    def test_typed(self, program_file: str, words: Words, typed: bytes) -> None:
+    @pytest.mark.parametrize("page, ends", [(EMPTY, b"\x04"), (POINT, b"\x04\x04")], ids=str)
+    def test_typed(self, program_file: str, words: Words, page: Page, ends: bytes) -> None:
         master, slave = open_terminal()
-        os.write(master, typed)
+        os.write(master, page.stream + ends)
         answer = run([program_file, *words], stdin=slave)
         os.close(slave)
         os.close(master)
-        expected = answer_of(words, False) if POINT in typed else Answer(0, EMPTY[words[0]])
-        assert answer == expected, f"{answer}, expected {expected}"
+        assert answer == page.answer(words)
 
     def test_terminal_that_is_gone(self, program_file: str, words: Words) -> None:
         """Whether a terminal whose other side is gone fails or ends is the system's choice."""
@@ -170,4 +153,4 @@ class TestTerminals:
         os.close(master)
         answer = run([program_file, *words], stdin=slave)
         os.close(slave)
-        assert answer in (read_fault(words), Answer(0, EMPTY[words[0]])), str(answer)
+        assert answer in (read_fault(words), EMPTY.answer(words)), str(answer)

@@ -6,7 +6,6 @@ crates/naplps_examples, but for blank lines.
 """
 import os
 import re
-import shutil
 import subprocess
 from pathlib import Path
 from typing import List, NamedTuple, Optional, Tuple
@@ -87,17 +86,3 @@ def test_block(pattern: str, block: List[str]) -> None:
     sources = [lines_of(file.read_text("utf-8")) for file in CRATE.glob(pattern) if file.name not in AROUND]
     assert any(lines[start : start + len(block)] == block for lines in sources for start in range(len(lines))), (
         f"no {pattern} of {CRATE.name} has the block of docs/LIBRARY.md that begins with: {block[0]}")
-
-
-def test_javascript(tmp_path: Path) -> None:
-    """The program in JavaScript of LIBRARY.md prints what stands after it, at the top of a clone."""
-    if shutil.which("node") is None:
-        pytest.skip("node isn't there (Debian: nodejs)")
-    text = LIBRARY.read_text("utf-8")
-    found = re.search(r"```js\n(.*?)```\n\nprints\n\n((?:    [^\n]*\n)+)", text, re.DOTALL)
-    assert found, "LIBRARY.md has no program in JavaScript"
-    for name in ("browser", "dist"):
-        (tmp_path / name).symlink_to(TOP / name)
-    (tmp_path / "example.mjs").write_text(found[1], "utf-8")
-    expected = re.sub("^    ", "", found[2], flags=re.MULTILINE).encode()
-    assert run(["node", "example.mjs"], cwd=tmp_path) == Answer(0, expected)

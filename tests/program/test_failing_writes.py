@@ -1,5 +1,6 @@
 """Writes that fail or are interrupted, each in turn: the status is 3, with the number of bytes that went out."""
 import errno
+import itertools
 import re
 from typing import List, Tuple
 
@@ -24,73 +25,53 @@ def write_fault(output: bytes) -> Answer:
     return fault(b"write fault after %d bytes" % len(output), output)
 
 
+def starts_of_writes(page: Page, expected: Answer, size: int) -> List[int]:
+    """Where the writes of an output start: each answer of `batch` has writes of its own."""
+    starts: List[int] = []
+    end = 0
+    for part in REQUESTS.answers if page is REQUESTS else [expected.out]:
+        start, end = end, end + len(part)
+        starts += range(start, end, size)
+    return starts
+
+
 def check_writes(faults: Faults, page: Page, words: Words, expected: Answer, **options: int) -> None:
     """Has each write fail in turn. (What was buffered isn't written again at the end.)"""
-    size, results = options["write_most"], 0
-    for result in until_none("write", expected, lambda **first: faults.run(page, words, **first, **options)):
-        cut = write_fault(expected.out[: (result.number - 1) * size])
+    starts = starts_of_writes(page, expected, options["write_most"])
+    results = until_none("write", expected, lambda **first: faults.run(page, words, **first, **options))
+    for start, result in itertools.zip_longest(starts, results):
+        assert start is not None and result is not None, f"{len(starts)} writes were expected to fail: {result}"
+        cut = write_fault(expected.out[:start])
         assert result.answer == cut, f"{result}, expected {cut}"
-        results += 1
-    assert results == -(-len(expected.out) // size), "not all writes failed"
 
 
 one_or_all = pytest.mark.parametrize("once", [1, 0], ids=["one", "all"])
-errors = pytest.mark.parametrize("error", [errno.EIO, errno.ENOSPC, 0], ids=["EIO", "ENOSPC", "no byte"])
 sizes = pytest.mark.parametrize("size", [65536, 7, 1])
 
 
 @one_or_all
-@errors
+@pytest.mark.parametrize("error", [errno.EIO, errno.ENOSPC, 0], ids=["EIO", "ENOSPC", "no byte"])
 @sizes
-@pytest.mark.parametrize("words, page", PAIRS, ids=name_of)
+@pytest.mark.parametrize("words, page", [*PAIRS, BATCH], ids=name_of)
 def test_commands_report_a_failed_write(faults: Faults, words: Words, page: Page, size: int, error: int,
                                         once: int) -> None:
     check_writes(faults, page, words, page.answer(words), write_most=size, errno=error, once=once)
 
 
 @one_or_all
-@sizes
-@pytest.mark.parametrize("words, page", MAKING, ids=name_of)
-def test_make_reports_a_failed_write(faults: Faults, words: Words, page: Page, size: int, once: int) -> None:
-    check_writes(faults, page, words, page.answer(words), write_most=size, errno=errno.EIO, once=once)
-
-
-@one_or_all
-@pytest.mark.parametrize("size", [65536, 6])
-@pytest.mark.parametrize("words", HELPS, ids=name_of)
-def test_help_reports_a_failed_write(faults: Faults, words: Words, size: int, once: int) -> None:
-    expected = faults.run(POINT, words).answer
+@pytest.mark.parametrize("size", [65536, 7, 6, 1])
+@pytest.mark.parametrize("words, page", [*MAKING, *((words, POINT) for words in HELPS)], ids=name_of)
+def test_make_and_help_report_a_failed_write(faults: Faults, words: Words, page: Page, size: int, once: int) -> None:
+    expected = page.answer(words) if words in MAKES else faults.run(page, words).answer
     assert expected.status == 0 and expected.out, str(expected)
-    check_writes(faults, POINT, words, expected, write_most=size, errno=errno.EIO, once=once)
-
-
-def starts_of_writes(size: int) -> List[int]:
-    """Where the writes of `batch` start in its output: each answer has writes of its own."""
-    starts: List[int] = []
-    end = 0
-    for answer in REQUESTS.answers:
-        start, end = end, end + len(answer)
-        starts += range(start, end, size)
-    return starts
-
-
-@one_or_all
-@errors
-@sizes
-def test_batch_reports_a_failed_write(faults: Faults, size: int, error: int, once: int) -> None:
-    whole = REQUESTS.answer([]).out
-    for number, start in enumerate(starts_of_writes(size), 1):
-        result = faults.run(REQUESTS, ["batch"], write=number, write_most=size, errno=error, once=once)
-        expected = write_fault(whole[:start])
-        assert result.answer == expected, f"{result}, expected {expected}"
+    check_writes(faults, page, words, expected, write_most=size, errno=errno.EIO, once=once)
 
 
 @sizes
 @pytest.mark.parametrize("words, page", [*PAIRS, *MAKING, BATCH], ids=name_of)
 def test_an_interrupted_write_is_made_again(faults: Faults, words: Words, page: Page, size: int) -> None:
     expected = page.answer(words)
-    count = len(starts_of_writes(size)) if page is REQUESTS else -(-len(expected.out) // size)
-    for number in range(1, count + 1):
+    for number in range(1, len(starts_of_writes(page, expected, size)) + 1):
         result = faults.run(page, words, write=number, write_most=size, errno=errno.EINTR, once=1)
         assert result.answer == expected, f"{result}, expected {expected}"
         assert result.letters == "w", f"no write was interrupted: {result}"

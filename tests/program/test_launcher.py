@@ -16,7 +16,7 @@ from dev.layout import TOP
 from trees import LOW, SYSTEM_PATH, Tree, answer, dist_answer
 
 OLD = 1_000_000_000
-NONE = Answer(70)
+NONE, KEPT = Answer(70), dist_answer("x")
 WHERE, REBUILD = {"NAPLPS_WHERE": "1"}, {"NAPLPS_REBUILD": "1"}
 
 
@@ -79,16 +79,6 @@ def test_crate_that_fails(tree: Tree, name: str) -> None:
     assert not list(copies.iterdir()), "the copy is left behind"
 
 
-def copy_older(older: Path, place: Path) -> None:
-    """Puts an older file in place of a source, as cp -p does."""
-    shutil.copy2(older, place)
-
-
-def move_older(older: Path, place: Path) -> None:
-    """Puts an older file in place of a source, as mv does."""
-    older.replace(place)
-
-
 def unpack_older(older: Path, place: Path) -> None:
     """Puts an older file in place of a source, as tar does."""
     words = ["tar", "--transform", "s/.*/lib.rt/", "-C", str(older.parent), "-c", older.name]
@@ -107,8 +97,8 @@ def rename_older(older: Path, place: Path) -> None:
     other.rename(crate)
 
 
-@pytest.mark.parametrize("replace", [copy_older, move_older, unpack_older, rename_older])
-def test_older_source(tree: Tree, replace: Callable[[Path, Path], None]) -> None:
+@pytest.mark.parametrize("replace", [shutil.copy2, os.replace, unpack_older, rename_older])
+def test_older_source(tree: Tree, replace: Callable[[Path, Path], object]) -> None:
     """A source that is replaced by an older one is seen, and so is a folder."""
     tree.build()
     older = tree.top.parent / "older"
@@ -228,36 +218,26 @@ def test_build_in_any_case(tree: Tree) -> None:
     assert tree.start("x", rt=False) == answer(words="x"), "none is kept any more"
 
 
-@pytest.mark.parametrize("place, text", [
-    pytest.param(LOW, "low // the lowest", id="a comment"),
-    pytest.param(LOW, "\n\n  low\n", id="blank lines"),
-    pytest.param(LOW, "/* a /* b */ c */ low", id="a comment within one"),
-    pytest.param("nap_low/specs/Lib.antt", "-- all of them\nspecs {- a {- b -} -}", id="a comment of definitions"),
-    pytest.param("nap_low/proofs/Lib.antt", "\nproofs -- done", id="a comment of a proof"),
+@pytest.mark.parametrize("place, before, after, expected", [
+    pytest.param(LOW, "low", "low // the lowest", KEPT, id="a comment"),
+    pytest.param(LOW, "low", "\n\n  low\n", KEPT, id="blank lines"),
+    pytest.param(LOW, "low", "/* a /* b */ c */ low", KEPT, id="a comment within one"),
+    pytest.param("nap_low/specs/Lib.antt", "specs", "-- all of them\nspecs {- a {- b -} -}", KEPT,
+                 id="a comment of definitions"),
+    pytest.param("nap_low/proofs/Lib.antt", "proofs", "\nproofs -- done", KEPT, id="a comment of a proof"),
+    pytest.param(LOW, "low", 'low "a // b"', NONE, id="a string"),
+    pytest.param(LOW, "low", "low low", NONE, id="one token more"),
+    pytest.param(LOW, "low", "lo w", NONE, id="a token parted"),
+    pytest.param(LOW, 'low "a // b"', 'low "a // c"', NONE, id="a mark of comments in a string"),
 ])
-def test_comment(tree: Tree, place: str, text: str) -> None:
-    """Comments, blank lines and layout ask for no other program, where Python can tell."""
+def test_tokens(tree: Tree, place: str, before: str, after: str, expected: Answer) -> None:
+    """Each token asks for another program; comments, blank lines and layout don't, where Python can tell."""
+    tree.write(place, before)
     tree.keep()
-    tree.write(place, text)
+    assert tree.start("x", rt=False) == KEPT
+    tree.write(place, after)
     for _ in range(2):
-        assert tree.start("x", rt=False) == dist_answer("x")
-
-
-@pytest.mark.parametrize("text", ['low "a // b"', "low low", "lo w"])
-def test_tokens(tree: Tree, text: str) -> None:
-    """Each token asks for another program."""
-    tree.keep()
-    tree.write(LOW, text)
-    assert tree.start("x", rt=False) == NONE
-
-
-def test_comment_mark_in_a_string(tree: Tree) -> None:
-    """What stands behind a mark of comments in a string counts."""
-    tree.write(LOW, 'low "a // b"')
-    tree.keep()
-    assert tree.start("x", rt=False) == dist_answer("x")
-    tree.write(LOW, 'low "a // c"')
-    assert tree.start("x", rt=False) == NONE
+        assert tree.start("x", rt=False) == expected
 
 
 def test_no_python(tree: Tree) -> None:
@@ -282,11 +262,6 @@ def with_byte_more(tree: Tree) -> None:
     tree.dist_program.write_bytes(tree.dist_program.read_bytes() + b"\n")
 
 
-def with_byte_less(tree: Tree) -> None:
-    """The program of dist has one byte less."""
-    tree.dist_program.write_bytes(tree.dist_program.read_bytes()[:-1])
-
-
 def without_sums(tree: Tree) -> None:
     """MADE has no sums but the program's."""
     line = tree.sums.read_text("ascii").splitlines()[1]
@@ -295,7 +270,8 @@ def without_sums(tree: Tree) -> None:
 
 ALTERED: Dict[str, Tuple[Callable[[Tree], object], bytes]] = {
     "one byte more": (with_byte_more, b"has other bytes than"),
-    "one byte less": (with_byte_less, b"has other bytes than"),
+    "one byte less": (lambda tree: os.truncate(tree.dist_program, tree.dist_program.stat().st_size - 1),
+                      b"has other bytes than"),
     "no sum of the sources": (lambda tree: tree.sums.write_text("naplps: 0\n"), b"made from other sources"),
     "empty sums": (without_sums, b"made from other sources"),
     "an empty MADE": (lambda tree: tree.sums.write_text(""), b"made from other sources"),

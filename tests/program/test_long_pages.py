@@ -9,7 +9,7 @@ from typing import Callable, Optional, Tuple
 import pytest
 
 from dev.judging import Answer, fault, run
-from fault_pages import CENTRE_LINE, HEADER, Words, name_of
+from fault_pages import CENTRE_LINE, HEADER, Page, Words, name_of
 from long_pages import LENGTH, MEBIBYTE, POINTS, RUN, centres, run_long
 
 COMMANDS = [["list"], ["check"], ["canon"], ["canon", "--stream"]]
@@ -58,12 +58,12 @@ def test_texts_that_may_not_fit(program_file: str, long_pages: Path, words: Word
         assert (result.status, result.stderr) == (3, b"no memory\n")
 
 
-MIDDLE_POINTS = 3000
-WHOLE = {
-    "list": Answer(0, LINE * MIDDLE_POINTS),
-    "check": Answer(0, b"accepted %d entries\n" % MIDDLE_POINTS),
-    "canon": Answer(0, HEADER + centres(MIDDLE_POINTS)),
-}
+def points(count: int, more: bytes = b"", refusal: Optional[str] = None) -> Page:
+    """A page of a number of points, and perhaps of more that is refused."""
+    return Page("points", b"\x0e" + b"&R@@" * count + more, [centres(count)], [CENTRE_LINE] * count, refusal)
+
+
+MIDDLE = points(3000)
 
 
 def is_unloaded(program: str, answer: Answer, lessen: Callable[[], None]) -> bool:
@@ -76,16 +76,16 @@ def is_refused(words: Words, answer: Answer) -> bool:
     """Whether an answer is a refusal for lack of memory, after the beginning of a stream or nothing."""
     line, other = (answer.out, answer.err) if words == ["check"] else (answer.err, answer.out)
     refusal = re.fullmatch(rb"refused 21 Memory at (\d+)\n", line)
-    if answer.status != 1 or refusal is None or int(refusal[1]) > 1 + 4 * MIDDLE_POINTS:
+    if answer.status != 1 or refusal is None or int(refusal[1]) > len(MIDDLE.stream):
         return False
-    is_beginning = other.startswith(HEADER) and WHOLE["canon"].out.startswith(other)
+    is_beginning = other.startswith(HEADER) and MIDDLE.canonical.startswith(other)
     return other == b"" or ("--stream" in words and is_beginning)
 
 
 @pytest.mark.parametrize("words", COMMANDS, ids=name_of)
 def test_any_little_memory(program_file: str, tmp_path: Path, words: Words) -> None:
     page = tmp_path / "middle.nap"
-    page.write_bytes(b"\x0e" + b"&R@@" * MIDDLE_POINTS)
+    page.write_bytes(MIDDLE.stream)
     for kibibytes in range(4, 644, 4):
 
         def lessen(limit: int = kibibytes * 1024) -> None:
@@ -93,28 +93,17 @@ def test_any_little_memory(program_file: str, tmp_path: Path, words: Words) -> N
 
         with open(page, "rb") as source:
             answer = run([program_file, *words], stdin=source, preexec_fn=lessen)
-        is_whole = answer == WHOLE[words[0]]
+        is_whole = answer == MIDDLE.answer(words)
         is_lack = answer == fault(b"no memory") or is_refused(words, answer)
         assert is_whole or is_lack or is_unloaded(program_file, answer, lessen), f"{kibibytes} KiB: {answer}"
 
 
-def expected_of(words: Words, count: int, is_refused_page: bool) -> Answer:
-    """The answer to a page of points, and perhaps a byte after them that is refused."""
-    refusal = b"refused 6 LeftOut CAN at %d\n" % (1 + 4 * count)
-    if words == ["check"]:
-        return Answer(1, refusal) if is_refused_page else Answer(0, b"accepted %d entries\n" % count)
-    text = LINE * count if words == ["list"] else HEADER + centres(count)
-    if is_refused_page:
-        return Answer(1, text if "--stream" in words else b"", refusal)
-    return Answer(0, text)
-
-
 def test_ten_thousand_runs_eight_beside_one_another(program_file: str) -> None:
     def start(number: int) -> Tuple[Answer, Answer]:
-        words, count, is_refused_page = COMMANDS[number % 4], number // 4 % 97, number % 5 == 0
-        page = b"\x0e" + b"&R@@" * count + (b"\x18" if is_refused_page else b"")
-        answer = run([program_file, *words], page, stdin=subprocess.PIPE)
-        return answer, expected_of(words, count, is_refused_page)
+        words, count = COMMANDS[number % 4], number // 4 % 97
+        is_refused_page = number % 5 == 0
+        page = points(count, b"\x18", f"refused 6 LeftOut CAN at {1 + 4 * count}") if is_refused_page else points(count)
+        return run([program_file, *words], page.stream, stdin=subprocess.PIPE), page.answer(words)
 
     with ThreadPoolExecutor(8) as pool:
         for number, (answer, expected) in enumerate(pool.map(start, range(10000))):

@@ -10,6 +10,7 @@ import pytest
 
 from dev.judging import Answer, run
 from dev.layout import TOP
+from samples import need
 from shells import answer, with_naplps
 
 MANUAL = TOP / "man" / "naplps.1"
@@ -79,12 +80,6 @@ def test_completion_by_bash(naplps: str, command: str) -> None:
     script = '. "$1"; COMP_WORDS=(naplps "$2" --); COMP_CWORD=2; _naplps; printf "%s\\n" "${COMPREPLY[@]}"'
     result = run(["bash", "-c", script, "bash", str(TOP / COMPLETIONS["bash"]), command])
     assert sorted(result.out.decode("utf-8").split()) == sorted(options(naplps, command)), f"{result}"
-
-
-def need(name: str) -> None:
-    """Skips a test where a command isn't there."""
-    if shutil.which(name) is None:
-        pytest.skip(f"{name} isn't there")
 
 
 def test_form_by_mandoc() -> None:

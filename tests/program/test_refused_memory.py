@@ -21,6 +21,9 @@ TESTS_OF_GROWTH = [
 ]
 # Where memory runs out to find the column, it is 1.
 UNKNOWN = Lines(GLYPH, b"wait 64\n", "line 5: no line of a list, at column 1")
+PAIRS = [(words, page) for words in COMMANDS for page in PAGES]
+PAIRS += [(words, LATE) for words in (["list"], ["list", "--hex"])]
+PAIRS += [(words, page) for words in MAKES for page in (*MADE_AGAIN, Lines(POLYGON), UNKNOWN)]
 one_or_all = pytest.mark.parametrize("once", [1, 0], ids=["one growth", "all from one on"])
 
 
@@ -34,33 +37,15 @@ def is_lack(page: Page, words: Words, answer: Answer) -> bool:
     return answer.status == 1 and refusal is not None and int(refusal[1]) <= len(page.stream) and other in outputs
 
 
-def check_growths(faults: Faults, page: Page, words: Words, once: int) -> None:
+@one_or_all
+@pytest.mark.parametrize("words, page", PAIRS, ids=name_of)
+def test_commands_report_lack_of_memory(faults: Faults, words: Words, page: Page, once: int) -> None:
     """Refuses each growth in turn."""
     expected = page.answer(words)
     for result in faults.in_turn("memory", page, words, once=once):
         assert set(result.letters) == {"m"} and not (once and len(result.letters) > 1), f"other faults: {result}"
         is_right = result.answer == expected or is_lack(page, words, result.answer)
         assert is_right, f"neither lack of memory nor the whole answer: {result}"
-
-
-@one_or_all
-@pytest.mark.parametrize("page", PAGES, ids=str)
-@pytest.mark.parametrize("words", COMMANDS, ids=name_of)
-def test_commands_report_lack_of_memory(faults: Faults, words: Words, page: Page, once: int) -> None:
-    check_growths(faults, page, words, once)
-
-
-@one_or_all
-@pytest.mark.parametrize("words", [["list"], ["list", "--hex"]], ids=name_of)
-def test_a_list_is_whole_or_empty_where_memory_runs_out_late(faults: Faults, words: Words, once: int) -> None:
-    check_growths(faults, LATE, words, once)
-
-
-@one_or_all
-@pytest.mark.parametrize("page", [*MADE_AGAIN, Lines(POLYGON), UNKNOWN], ids=str)
-@pytest.mark.parametrize("words", MAKES, ids=name_of)
-def test_make_reports_lack_of_memory(faults: Faults, words: Words, page: Page, once: int) -> None:
-    check_growths(faults, page, words, once)
 
 
 @one_or_all
@@ -96,11 +81,6 @@ def test_help_and_wrong_words_report_lack_of_memory(faults: Faults, words: Words
     results = until_none("memory", whole, lambda **first: faults.run(POINT, words, once=once, **first))
     for result in results:
         assert result.answer in (whole, fault(b"no memory")), f"{result}, expected {whole}"
-
-
-def test_words_that_exclude_each_other(faults: Faults) -> None:
-    answer = faults.run(POINT, EXCLUDED).answer
-    assert answer == Answer(2, b"", b"--hex and --stream exclude each other\n"), str(answer)
 
 
 def is_answered(output: bytes, is_whole: bool) -> bool:

@@ -63,16 +63,12 @@ WRONG = [
     "list --stream",
     "check --stream",
     "list list --hex",
-    "list --hex --hex",
     "list --budget=1 --budget=1",
     "list --hex --budget",
-    "list --budget many",
     "list --budget 67108865",
     "list --budget=67108865",
     "list --hex --budget=-1",
-    "list --version",
     "canon --hex --stream",
-    "help frob",
     "help list frob",
     "make --hex",
     "make --budget 1",
@@ -122,16 +118,8 @@ AROUND = ["%s", "check %s", "list --budget %s", "canon --%s", "help %s"]
 
 # Words, and the budget that they choose.
 BUDGETS = [
-    ("canon --budget 0", 0),
-    ("canon --budget 1", 1),
-    ("canon --budget 007", 7),
-    ("canon --budget +70000", 70_000),
-    ("canon --budget 67108864", 67_108_864),
-    ("check --hex --budget 0", 0),
-    ("check --hex --budget 1", 1),
-    ("check --hex --budget 007", 7),
-    ("check --hex --budget +70000", 70_000),
-    ("check --hex --budget 67108864", 67_108_864),
+    *((f"{command} --budget {number}", int(number)) for command in ("canon", "check --hex")
+      for number in ("0", "1", "007", "+70000", "67108864")),
     ("list", 1_048_576),
     ("list --budget=-0", 0),
 ]
@@ -140,9 +128,10 @@ BODY = 524_288
 
 
 class Help(NamedTuple):
-    """A command line that asks for a help, how that begins and ends, and what stands between."""
+    """A command line that asks for a help, its command, how that begins and ends, and what stands between."""
 
     line: str
+    command: str
     first: str
     last: str
     parts: Tuple[str, ...]
@@ -151,15 +140,14 @@ class Help(NamedTuple):
 WIDTH = 100
 BUDGET_HELP = ("--budget <N>", "0 to 67108864 [default: 1048576]")
 POINT_SHOWN = "\n  POINT 4194304,4194304 pel=0,0 colour=own-start\n"
-OF_ALL = ("Reads NAPLPS pages", POINT_SHOWN,
+OF_ALL = ("", "Reads NAPLPS pages", POINT_SHOWN,
           ("\n  list ", "\n  check ", "\n  canon ", "\n  make ", "\n  batch ", "\n  2  a wrong command line\n"))
-OF_LIST = ("Prints one line for each point", POINT_SHOWN, ("naplps list", "--hex", *BUDGET_HELP))
-OF_CHECK = ("Says whether the page is accepted", "\n  accepted 1 entries\n", ("naplps check", "--hex", *BUDGET_HELP))
-OF_CANON = ("Prints the page's canonical stream", "\n  0e215f265240404040404040\n",
-            ("naplps canon", "--stream", *BUDGET_HELP))
-OF_MAKE = ("Makes the page of lines", POINT_SHOWN, ("naplps make", "--stream"))
-OF_BATCH = ("Answers requests, one after another", "\n  accepted 1 entries\n  0\n",
-            ("naplps batch", "COMMAND BUDGET LENGTH", "check, list, canon or places; or make"))
+OF_LIST = ("list", "Prints one line for each point", POINT_SHOWN, ("--hex", *BUDGET_HELP))
+OF_CHECK = ("check", "Says whether the page is accepted", "\n  accepted 1 entries\n", ("--hex", *BUDGET_HELP))
+OF_CANON = ("canon", "Prints the page's canonical stream", "\n  0e215f265240404040404040\n", ("--stream", *BUDGET_HELP))
+OF_MAKE = ("make", "Makes the page of lines", POINT_SHOWN, ("--stream",))
+OF_BATCH = ("batch", "Answers requests, one after another", "\n  accepted 1 entries\n  0\n",
+            ("COMMAND BUDGET LENGTH", "check, list, canon or places; or make"))
 HELPS = [
     Help("--help --hex", *OF_ALL), Help("--help", *OF_ALL), Help("help", *OF_ALL),
     Help("help list", *OF_LIST), Help("list --help", *OF_LIST),
@@ -191,11 +179,13 @@ def answer_unread(program: str, words: Sequence[Union[str, bytes]]) -> Answer:
     return result
 
 
-@pytest.mark.parametrize("line", WRONG)
+@pytest.mark.parametrize("line", [*WRONG, *NO_FILES])
 def test_wrong_words(naplps: str, line: str) -> None:
-    """Wrong words print nothing, read nothing and have a reason, with the status 2."""
+    """Wrong words print nothing, read nothing and have a reason, with the status 2; a hint only where a word may be
+    meant for a file."""
     result = answer_unread(naplps, line.split(" ") if line else [])
     assert result.err.startswith((b"error: ", EXCLUDED.err))
+    assert line in WRONG or HINT not in result.err and LINES_HINT not in result.err
 
 
 def test_word_that_is_not_utf_8(naplps: str) -> None:
@@ -209,13 +199,6 @@ def test_hint(naplps: str, line: str, command: str) -> None:
     result = answer_unread(naplps, line.split(" "))
     assert f"\nUsage: {USAGES[command]}\n".encode() in result.err
     assert result.err.endswith(LINES_HINT if command == "make" else HINT)
-
-
-@pytest.mark.parametrize("line", NO_FILES)
-def test_no_hint(naplps: str, line: str) -> None:
-    """Other wrong words bring no hint."""
-    result = answer(naplps, line)
-    assert result.status == 2 and HINT not in result.err and LINES_HINT not in result.err
 
 
 @pytest.mark.parametrize("line", NO_COMMANDS)
@@ -268,19 +251,13 @@ def test_budget(naplps: str, line: str, budget: int) -> None:
 
 @pytest.mark.parametrize("entry", HELPS, ids=[entry.line for entry in HELPS])
 def test_help(naplps: str, entry: Help) -> None:
-    """Help is printed whole, and nothing else, on lines that aren't too wide."""
+    """Help is printed whole, with the usage of its command, and nothing else, on lines that aren't too wide."""
     result = answer(naplps, entry.line)
     text = result.out.decode("utf-8")
     assert result == Answer(0, result.out)
     assert text.startswith(entry.first) and text.endswith(entry.last), text
-    assert [part for part in entry.parts if part not in text] == [], text
+    assert [part for part in (f"\nUsage: {USAGES[entry.command]}\n", *entry.parts) if part not in text] == [], text
     assert [line for line in text.split("\n") if len(line) > WIDTH] == []
-
-
-@pytest.mark.parametrize("command", USAGES)
-def test_usage(naplps: str, command: str) -> None:
-    """Each help has the usage of its command, which shows where the page comes from."""
-    assert f"\nUsage: {USAGES[command]}\n".encode() in answer(naplps, f"{command} --help".strip()).out
 
 
 @pytest.mark.parametrize("command", USAGES)

@@ -14,7 +14,7 @@ def places(path: str) -> Set[str]:
 
 
 @pytest.mark.parametrize("path, needed, unneeded", [
-    ("python/naplps_pages/commands/census.py", "tool/test_census.py", "browser/test_player.py"),
+    ("python/naplps_pages/collection/census.py", "tool/test_census.py", "browser/test_player.py"),
     ("python/naplps_pages/commands/check.py", "tool/test_commands.py", "browser/test_player.py"),
     ("python/naplps/dots/surface.py", "tool/test_raster.py", "program/test_words.py"),
     ("docs/MAKING.md", "tool/test_making_documents.py", "tool/test_scan_same.py"),

@@ -5,41 +5,8 @@ import pytest
 
 from dev.rattle.clauses import Sums, lines_of_logic, without_bodies
 from dev.rattle.tokens import Source
+from halves import HALVES
 
-SOURCE = '''//! Halves.
-/// What is halved at most.
-pub const MAX: u32 = 64;
-
-pub struct Half {
-    number: u32,
-    ghost even: { number < 64 } by { small },
-}
-
-impl<T: Copy> Half {
-    /// The half, { rounded down.
-    pub fn of(number: u32) -> Half
-        requires { number < 64 }
-        // What it gives.
-        ensures half { let double = 2 in
-            result.number ≡ number / double }
-    {
-        let brace = '{';
-        Half { number: number / 2 }
-    }
-
-    fn text(&self) -> &str {
-        "ensures { a text }"
-    }
-}
-
-trait Halves {
-    fn put(&mut self, codes: [u8; 3])
-        ensures { kept }
-    ;
-}
-
-fn apart() {}
-'''
 SPEC = """-- Halves, and what they are of.
 use low.specs.Sizes.{size, most}
 pub use low.specs.Signs.{sign}
@@ -50,8 +17,8 @@ half n = n / 2
 
 
 def test_bodies_comments_and_texts_are_cut_out() -> None:
-    kept = without_bodies(Source.of(SOURCE))
-    assert "const MAX : u32 = 64 ;" in kept
+    kept = without_bodies(Source.of(HALVES))
+    assert "const MAX : [ u32 ; 1 ] = [ 64 ] ;" in kept
     assert "ensures half { let double = 2 in result . number ≡" in kept
     assert not [gone for gone in ("a text", "brace", "What") if gone in kept]
 
@@ -69,7 +36,7 @@ def root(tmp_path: Path) -> Path:
     for crate in (tmp_path / "crates" / "low", tmp_path / "crates" / "high"):
         for part in ("src/tests", "specs"):
             (crate / part).mkdir(parents=True)
-        (crate / "src" / "lib.rt").write_text(SOURCE, "utf-8")
+        (crate / "src" / "lib.rt").write_text(HALVES, "utf-8")
         (crate / "specs" / "Half.antt").write_text(SPEC, "utf-8")
     return tmp_path
 
@@ -78,8 +45,8 @@ def root(tmp_path: Path) -> Path:
     ("high", "src/lib.rt", "result.number ≡", "result.number ≤", True),
     ("low", "src/lib.rt", "result.number ≡", "result.number ≤", True),
     ("high", "src/lib.rt", "even: { number < 64 }", "even: { number < 65 }", True),
-    ("low", "src/lib.rt", "u32 = 64", "u32 = 65", True),
-    ("low", "src/lib.rt", "number: u32,", "number: u64,", True),
+    ("low", "src/lib.rt", "= [64]", "= [65]", True),
+    ("low", "src/lib.rt", "HashMap<u32, T>", "HashMap<u64, T>", True),
     ("low", "specs/Half.antt", "n / 2", "n / 3", True),
     ("low", "specs/Half.antt", "Sizes.{size, most}", "{Sizes.most, Sizes.size}", False),
     ("low", "specs/Half.antt", "{size, most}", "{size, least as most}", True),

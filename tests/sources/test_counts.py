@@ -62,11 +62,6 @@ def size_of_page() -> int:
     return round((TOP / "dist" / "browser" / "naplps.html").stat().st_size / 20_000) * 20
 
 
-def lines_of_ferry() -> int:
-    """How many lines the source of the page has that README.md makes."""
-    return len((TOP / "examples" / "gallery" / "sources" / "ferry.txt").read_text("utf-8").splitlines())
-
-
 class Count(NamedTuple):
     """A count that a document states: the words around the number, and the number by the tree."""
 
@@ -84,7 +79,6 @@ COUNTS = (
     Count("docs/PROMISES.md", f"all {NUMBER} kinds", kinds),
     Count("docs/PROMISES.md", f"all {NUMBER} commands", commands),
     Count("README.md", f"some {NUMBER} streams", vectors),
-    Count("README.md", f"a page of {NUMBER} lines", lines_of_ferry),
     Count("vectors/README.md", f"some {NUMBER} streams", vectors),
 )
 # The chapters of python/README.md that name modules of one folder, and other names that look so.

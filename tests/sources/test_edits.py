@@ -108,16 +108,14 @@ def test_a_verdict_holds_whatever_the_layout(crate: Crate, refused: Path) -> Non
     assert crate.faults() == []
 
 
-@pytest.mark.parametrize("old, new", [("let mut sum = 0", "let mut sum = 1"), ("≡ sum self", "≤ sum self"),
-                                      ("64;", "65;")])
-def test_a_verdict_holds_for_its_file_and_its_clauses(crate: Crate, refused: Path, old: str, new: str) -> None:
-    crate.write("part_is_lost", SOURCE.replace(old, new))
-    (fault,) = crate.faults()
-    assert fault.startswith(AGAIN)
-
-
-def test_a_verdict_holds_for_its_edit(crate: Crate, refused: Path) -> None:
-    refused.write_text(refused.read_text("utf-8").replace("+= 1", "+= 2"), "utf-8")
+@pytest.mark.parametrize("file, old, new", [
+    ("src/lib.rt", "let mut sum = 0", "let mut sum = 1"), ("src/lib.rt", "≡ sum self", "≤ sum self"),
+    ("src/lib.rt", "64;", "65;"), ("wrong-bodies/part_is_lost.edit", "+= 1", "+= 2"),
+])
+def test_a_verdict_holds_for_its_file_its_clauses_and_its_edit(crate: Crate, refused: Path, file: str, old: str,
+                                                               new: str) -> None:
+    path = crate.folder / file
+    path.write_text(path.read_text("utf-8").replace(old, new), "utf-8")
     (fault,) = crate.faults()
     assert fault.startswith(AGAIN)
 

@@ -24,8 +24,7 @@ MAX_LINES = 150
 HEADLINE = (
     ("For streams that the reader accepts, canonical streams have equal bytes exactly if the display lists that the "
      "standard's rules give are equal;",
-     "Two pages that are accepted have canonical streams of equal bytes exactly if the lists that the rules give are "
-     "equal."),
+     "Two accepted pages have identical canonical streams if and only if they have identical lists."),
     ("a canonical stream uses no macro, no REL opcode and one operand size,",
      "it defines and calls no macro, moves by no relative opcode and has one length for the operands that it draws "
      "with."),

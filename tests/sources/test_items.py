@@ -2,82 +2,17 @@
 from dev.layout import TOP
 from dev.rattle.items import Item, Signature, functions_in, items_in, members_of
 from dev.rattle.tokens import Source
+from halves import HALVES
 
-TEXT = '''//! Halves.
-#![tactic(auto)]
-
-/// What is halved at most.
-pub const MAX: [u32; 1] = [64];
-use low::{Size, Shape};
-ghost use Rattle.low.specs.Sizes.{
-    size,
-    shape,
-};
-
-/// A half, which has
-/// no rest.
-#[derive(Clone,
-    Copy)]
-#[repr(C)]
-pub(crate) struct Half<T> {
-    /// A comment, with a comma.
-    number: HashMap<u32, T>,
-    pub call: fn(u32) -> u32, // of a number
-    ghost even: { number < 64 } by { small, large },
-}
-
-pub struct Pair(pub u8, &'static str);
-struct Unit;
-
-pub enum Kind {
-    #[error("a { and a ,")]
-    Sized { bytes: Vec<u8>, more: u8 },
-    Named(u8, u8),
-    None,
-}
-
-impl<T: Copy> Half<T> {
-    /// The half, { rounded down.
-    pub fn of(number: u32, (low, high): (u32, [u8; 3])) -> Result<Half<T>, Fault<T>>
-    where
-        T: Copy,
-        requires { number < 64 }
-        // What it gives.
-        ensures half { let double = 2 in
-            result.number ≡ number / double }
-    {
-        let brace = '{';
-        fn inner() {}
-        Half { number: number / 2 }
-    }
-
-    #[inline]
-    const fn text(&self) -> &str {
-        "ensures { a text }"
-    }
-
-    ghost invariant = { λ h. record { small : h.number < 64; large : ⊤ } };
-}
-
-trait Halves {
-    fn put(&mut self, codes: [u8; 3])
-        ensures { kept }
-    ;
-}
-
-#[unsafe(no_mangle)]
-pub extern "C" fn apart() {}
-mod inner {
-    fn within() {}
-}
-'''
 ITEMS = [
     ("const", "MAX", ""), ("use", "low", ""), ("use", "Rattle", ""), ("struct", "Half", ""), ("struct", "Pair", ""),
     ("struct", "Unit", ""), ("enum", "Kind", ""), ("impl", "", ""), ("fn", "of", "impl<T: Copy> Half<T>"),
+    ("fn", "is_even", "impl<T: Copy> Half<T>"), ("fn", "parity", "impl<T: Copy> Half<T>"),
     ("fn", "text", "impl<T: Copy> Half<T>"), ("ghost", "invariant", "impl<T: Copy> Half<T>"), ("trait", "Halves", ""),
-    ("fn", "put", "trait Halves"), ("fn", "apart", ""), ("mod", "inner", ""), ("fn", "within", ""),
+    ("fn", "put", "pub trait Halves"), ("fn", "give", "pub trait Halves"), ("fn", "apart", ""), ("mod", "inner", ""),
+    ("fn", "within", ""),
 ]
-SOURCE = Source.of(TEXT)
+SOURCE = Source.of(HALVES)
 
 
 def item(name: str) -> Item:
@@ -105,14 +40,15 @@ def test_items_have_attributes_comments_and_visibility() -> None:
 
 def test_functions_have_clauses_and_bodies() -> None:
     found = [(function.name, [(clause.kind, clause.name, clause.text) for clause in function.clauses],
-              TEXT.count("\n", *function.body)) for function in functions_in(TEXT)]
+              HALVES.count("\n", *function.body)) for function in functions_in(HALVES)]
     assert found == [
         ("of", [("requires", "", "number < 64"),
                 ("ensures", "half", "let double = 2 in result.number ≡ number / double")], 4),
-        ("text", [], 2), ("put", [("ensures", "", "kept")], 0), ("apart", [], 0), ("within", [], 0),
+        ("is_even", [], 0), ("parity", [], 0), ("text", [], 2), ("put", [("ensures", "", "kept")], 0),
+        ("give", [], 0), ("apart", [], 0), ("within", [], 0),
     ]
-    assert TEXT[slice(*item("apart").body)] == "{}"
-    assert TEXT[slice(*item("put").body)] == ""
+    assert HALVES[slice(*item("apart").body)] == "{}"
+    assert HALVES[slice(*item("put").body)] == ""
 
 
 def test_signatures() -> None:
@@ -127,12 +63,13 @@ def test_members() -> None:
         members = members_of(SOURCE, item(name))
         return [(member.kind, member.name, member.visibility, member.is_ghost) for member in members]
 
-    assert of("Half") == [("field", "number", "", False), ("field", "call", "pub", False), ("field", "even", "", True)]
+    assert of("Half") == [("field", "number", "pub(crate)", False), ("field", "call", "pub", False),
+                          ("field", "even", "pub", True)]
     assert of("Pair") == [("part", "u8", "pub", False)]
     assert of("Kind") == [(("variant", name, "", False)) for name in ("Sized", "Named", "None")]
     assert of("Unit") == of("of") == []
     number, *_ = members_of(SOURCE, item("Half"))
-    assert (number.comment, number.head) == ("A comment, with a comma.", "number: HashMap<u32, T>")
+    assert (number.comment, number.head) == ("A comment, with a comma.", "pub(crate) number: HashMap<u32, T>")
 
 
 def test_all_sources_are_read() -> None:

@@ -13,6 +13,7 @@ from dev.crates import sources_of
 from dev.layout import TOP
 from dev.rattle.items import Item, Signature, items_in, members_of
 from dev.rattle.tokens import Source
+from halves import HALVES
 
 CRATES = sorted(path.parent.name for path in TOP.glob("crates/*/src"))
 # The functions of this file of a crate are laws, whose sentence is the statement itself.
@@ -67,61 +68,13 @@ def test_public_items_have_sentences(crate: str) -> None:
     assert not wrong, "\n".join(wrong)
 
 
-SOURCE = '''/// The size of a half.
-pub const MAX: u32 = 64;
-
-/// A half.
-#[derive(Clone, Copy)]
-pub struct Half {
-    pub(crate) hidden: u32,
-    pub bare: u32,
-    pub ghost value: { ℕ },
-}
-
-/// What a half is.
-pub enum Kind {
-    /// Of this many bytes, {
-    Sized { bytes: Vec<u8>, more: u8 },
-    None,
-}
-
-impl Half {
-    /// Returns the half, rounded
-    /// down.
-    pub fn of(number: u32) -> Half
-        requires { number < 64 }
-    {
-        Half { number }
-    }
-
-    /// Whether it is even.
-    pub const fn is_even(&self) -> bool { true }
-
-    /// Whether it is even.
-    pub fn parity(&self) -> u32 { 1 }
-    fn private(&self) {}
-}
-
-/// Takes halves.
-pub trait Taker {
-    /// Bytes of a half.
-    fn take(&mut self, half: Half) -> Result<(), Fault>
-        ensures { true };
-    fn give(&self) -> bool { false }
-}
-
-/// So it does.
-pub fn lean() {}
-'''
-
-
 def test_what_is_wrong_with_sentences() -> None:
-    found = [(item.kind, item.name, item.comment, not fault_of(item)) for item in public_items(Source.of(SOURCE))]
+    found = [(item.kind, item.name, item.comment, not fault_of(item)) for item in public_items(Source.of(HALVES))]
     assert found == [
-        ("const", "MAX", "The size of a half.", True), ("struct", "Half", "A half.", True),
-        ("field", "bare", "", False), ("enum", "Kind", "What a half is.", True),
-        ("variant", "Sized", "Of this many bytes, {", True), ("variant", "None", "", False),
-        ("fn", "of", "Returns the half, rounded down.", True), ("fn", "is_even", "Whether it is even.", True),
-        ("fn", "parity", "Whether it is even.", False), ("trait", "Taker", "Takes halves.", True),
-        ("fn", "take", "Bytes of a half.", False), ("fn", "give", "", False), ("fn", "lean", "So it does.", False),
+        ("const", "MAX", "What is halved at most.", True), ("field", "call", "", False), ("struct", "Pair", "", False),
+        ("enum", "Kind", "What a half is.", True), ("variant", "Sized", "Of this many bytes, {", True),
+        ("variant", "Named", "", False), ("variant", "None", "", False),
+        ("fn", "of", "Returns the half, { rounded down.", True), ("fn", "is_even", "Whether it is even.", True),
+        ("fn", "parity", "Whether it is even.", False), ("trait", "Halves", "Takes halves.", True),
+        ("fn", "put", "Bytes of a half.", False), ("fn", "give", "", False), ("fn", "apart", "So it does.", False),
     ]

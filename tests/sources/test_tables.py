@@ -3,8 +3,7 @@ from pathlib import Path
 
 import pytest
 
-from dev.crates import below, crates_in, crates_of_product, sources_of
-from dev.layout import TOP
+from dev.crates import below, crates_in, sources_of
 from dev.tables import rows_in, write_rows
 
 
@@ -22,14 +21,6 @@ def test_sources_of_a_crate_are_no_tests(tmp_path: Path) -> None:
         path.parent.mkdir(parents=True, exist_ok=True)
         path.write_text("", "utf-8")
     assert [str(path.relative_to(tmp_path)) for path in sources_of(tmp_path)] == ["src/inner/more.rt", "src/lib.rt"]
-
-
-def test_crates_of_the_product() -> None:
-    """They are those of the program and of the libraries, lowest first."""
-    crates = crates_of_product(TOP)
-    assert crates[0] == "nap_values"
-    assert {"nap_cli", "nap_c", "naplps"} <= {*crates}
-    assert not [crate for crate in crates if "test" in crate or "example" in crate]
 
 
 def test_a_table_is_read_as_it_was_written(tmp_path: Path) -> None:

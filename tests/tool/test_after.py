@@ -8,7 +8,6 @@ from hypothesis import strategies as st
 
 from command import file
 from naplps.answers import Accepted
-from naplps.client import Client
 from naplps_pages.listing import Earlier, Listed, heard, listed
 from naplps_pages.player import played
 from naplps_pages.source import Page
@@ -37,91 +36,88 @@ def lines(run, folder, *words):
 
 
 def test_the_last_page_is_told_alone(run, folder):
-    assert lines(run, folder, "list", "second", "--after", "first") == [POINT_LINE, CHAR % "4194304,4194304"]
-    assert lines(run, folder, "check", "second", "--after", "first") == ["accepted 2 entries"]
-    assert lines(run, folder, "text", "second", "--after", "first") == ["A"]
-    (row,) = map(json.loads, lines(run, folder, "list", "second", "--json", "--after", "first"))
+    assert lines(run, folder, "list", "second", "--previous", "first") == [POINT_LINE, CHAR % "4194304,4194304"]
+    assert lines(run, folder, "check", "second", "--previous", "first") == ["accepted 2 entries"]
+    assert lines(run, folder, "show", "--format", "text", "second", "--previous", "first") == ["A"]
+    (row,) = map(json.loads, lines(run, folder, "list", "second", "--json", "--previous", "first"))
     assert [(each["kind"], each["place"]) for each in row["list"]] == [("POINT", 1), ("CHAR", 2)]
     assert (row["name"], row["entries"]) == ("second", 2)
     assert lines(run, folder, "list", "second")[0].startswith("CHAR supplementary 41")
-    (row,) = map(json.loads, lines(run, folder, "check", "second", "--json", "--after", "first"))
+    (row,) = map(json.loads, lines(run, folder, "check", "second", "--json", "--previous", "first"))
     assert (row["status"], row["entries"], row["kind"]) == ("accepted", 2, "page")
 
 
-def test_several_pages_in_their_order(run, folder):
-    assert lines(run, folder, "check", "second", "--after", "first", "--after", "run") == ["accepted 2 entries"]
-    assert lines(run, folder, "check", "second", "first", "--after", "first") == [
+def test_several_pages_in_their_order_and_a_run_that_goes_on(run, folder):
+    assert lines(run, folder, "check", "second", "--previous", "first", "--previous", "run") == ["accepted 2 entries"]
+    assert lines(run, folder, "check", "second", "first", "--previous", "first") == [
         "second: accepted 2 entries", "first: accepted 0 entries (blank)"]
-
-
-def test_a_run_that_goes_on_acts_in_the_last_page(run, folder):
-    told = lines(run, folder, "list", "goes on", "--after", "run")
+    told = lines(run, folder, "list", "goes on", "--previous", "run")
     assert [line.split()[0] for line in told] == ["POINT", "POINT", "CHAR"]
     # (a run that ends with the page before belongs to that)
-    assert lines(run, folder, "list", "first", "--after", "run") == []
-    assert lines(run, folder, "check", "closes", "--after", "open") == ["accepted 1 entries"]
+    assert lines(run, folder, "list", "first", "--previous", "run") == []
+    assert lines(run, folder, "check", "closes", "--previous", "open") == ["accepted 1 entries"]
 
 
 def test_explain_has_the_offsets_of_the_last_page(run, folder):
-    told = lines(run, folder, "explain", "second", "--after", "first")
+    told = lines(run, folder, "check", "--explain", "second", "--previous", "first")
     assert told[0] == "second: accepted 2 entries"
     assert [(line[:8].strip(), line[10:33].strip(), line[35:61].strip()) for line in told[1:]] == [
         ("0", "19 41", "call of macro 41"), ("2", "41", "character A")]
     assert told[1].split()[-3].startswith(POINT_LINE.split()[-3])
-    said = run(["explain", "outside", "--after", "first"], cwd=folder)
+    said = run(["check", "--explain", "outside", "--previous", "first"], cwd=folder)
     told = said.stdout.decode().splitlines()
     assert said.returncode == 1 and told[0] == "outside: refused 10 Outside at 3" and "The code there: LINE ABS" in told
 
 
-def test_look_draws_over_what_the_earlier_pages_left(run, folder):
-    both = run(["look", "second", "--after", "run", "--after", "first"], cwd=folder).stdout
-    assert both == run(["look", "-"], RUN + FIRST + SECOND).stdout != run(["look", "second"], cwd=folder).stdout
+def test_show_draws_over_what_the_earlier_pages_left(run, folder):
+    both = run(["show", "second", "--previous", "run", "--previous", "first"], cwd=folder).stdout
+    assert both == run(["show", "-"], RUN + FIRST + SECOND).stdout != run(["show", "second"], cwd=folder).stdout
 
 
-def test_canon_says_why_it_has_no_such_form(run, folder):
-    said = run(["canon", "second", "--after", "first"], cwd=folder)
-    assert said.returncode == 2 and said.stderr.decode().endswith(
-        "error: --after is not for canon: a canonical stream begins where nothing stands, so a page after others has "
-        "none; `cat` joins pages to one that has\n")
-    assert b"--after" not in run(["canon", "--help"]).stdout and b"--after" in run(["list", "--help"]).stdout
+def test_canon_has_no_such_form(run, folder):
+    """A canonical stream begins where nothing stands."""
+    said = run(["canon", "second", "--previous", "first"], cwd=folder)
+    assert (said.stdout, said.returncode) == (b"", 2)
+    assert b"--previous" not in run(["canon", "--help"]).stdout and b"--previous" in run(["list", "--help"]).stdout
 
 
 def test_an_earlier_page_that_is_refused_is_named(run, folder):
-    for command in ("check", "list", "text", "look", "explain"):
-        said = run([command, "second", "--after", "first", "--after", "bad"], cwd=folder)
+    for command in ("check", "list", "show --format text", "show", "show --format html", "check --explain"):
+        said = run([*command.split(), "second", "--previous", "first", "--previous", "bad"], cwd=folder)
         assert (said.stdout, said.returncode) == (b"", 3)
         assert said.stderr == b"naplps-pages: second: the page before it, bad, is refused 6 LeftOut CAN at 1\n"
-    (row,) = map(json.loads, run(["list", "second", "--json", "--after", "bad"], cwd=folder).stdout.splitlines())
+    (row,) = map(json.loads, run(["list", "second", "--json", "--previous", "bad"], cwd=folder).stdout.splitlines())
     assert (row["status"], row["list"]) == ("no answer", None)
-    said = run(["list", "outside", "--after", "first"], cwd=folder)
+    said = run(["list", "outside", "--previous", "first"], cwd=folder)
     assert (said.stderr, said.returncode) == (b"naplps-pages: outside: refused 10 Outside at 3\n", 1)
 
 
 def test_what_cant_be_read_or_is_too_long(run, folder):
-    said = run(["check", "second", "--after", "none"], cwd=folder)
+    said = run(["check", "second", "--previous", "none"], cwd=folder)
     assert (said.stdout, said.stderr, said.returncode) == (b"", b"naplps-pages: none: No such file or directory\n", 3)
     file(folder, "long", b"\0" * (16 << 20))
-    said = run(["check", "second", "--after", "long"], cwd=folder)
+    said = run(["check", "second", "--previous", "long"], cwd=folder)
     assert said.returncode == 3 and said.stderr.endswith(
         b"second: it and the pages before it are longer than 16 MiB together\n")
-    said = run(["check", "second", "--after", "long", "--after", "first"], cwd=folder)
+    said = run(["check", "second", "--previous", "long", "--previous", "first"], cwd=folder)
     assert said.returncode == 3 and said.stderr.endswith(b"first: the earlier pages are longer than 16 MiB\n")
-    assert run(["check", "-", "--after", "-"], cwd=folder).returncode == 2
-    assert run(["check", "second", "--after", "-"], FIRST, cwd=folder).stdout == b"accepted 2 entries\n"
+    assert run(["check", "-", "--previous", "-"], cwd=folder).returncode == 2
+    assert run(["check", "second", "--previous", "-"], FIRST, cwd=folder).stdout == b"accepted 2 entries\n"
 
 
 def test_a_player_has_the_entries_of_earlier_pages_in_front(run, folder):
     file(folder, "point", POINT + b"\x0f")
     file(folder, "text", b"A")
     html = os.path.join(folder, "player.html")
-    said = run(["play", "text", "--after", "first", "--after", "point", "-o", html], cwd=folder)
+    said = run(["show", "text", "--previous", "first", "--previous", "point", "-o", html], cwd=folder)
     assert (said.stdout, said.stderr, said.returncode) == (b"", b"", 0)
     it = held(html)
     assert (it["before"], it["length"], it["places"], it["codes"]["entry"]) == (1, 1, [-1, 0], [-1, 0])
-    assert it["lines"] == [POINT_LINE, *lines(run, folder, "list", "text", "--after", "first", "--after", "point")]
+    previous = ["--previous", "first", "--previous", "point"]
+    assert it["lines"] == [POINT_LINE, *lines(run, folder, "list", "text", *previous)]
     with open(html, encoding="utf-8") as made:
         assert "It comes after first, point: " in made.read()
-    said = run(["play", "second", "--after", "bad", "-o", html + "2"], cwd=folder)
+    said = run(["show", "second", "--previous", "bad", "-o", html + "2"], cwd=folder)
     assert said.returncode == 3 and said.stderr.endswith(b"the page before it, bad, is refused 6 LeftOut CAN at 1\n")
     assert not os.path.exists(html + "2")
 
@@ -145,13 +141,9 @@ PIECES = st.lists(st.sampled_from([
 
 
 @given(PIECES, PIECES)
-def test_the_entries_of_both_are_those_of_the_joined_stream(naplps, one, other):
-    program = Client(naplps)
-    try:
-        told = heard(program, Earlier(one, ("one",), (len(one),)), Page("other", other))
-        whole, first = listed(program, Page("", one + other)), listed(program, Page("", one))
-    finally:
-        program.close()
+def test_the_entries_of_both_are_those_of_the_joined_stream(program, one, other):
+    told = heard(program, Earlier(one, ("one",), (len(one),)), Page("other", other))
+    whole, first = listed(program, Page("", one + other)), listed(program, Page("", one))
     if told.last.rows is None:
         return
     assert told.every.rows == whole.rows and whole.rows is not None and first.rows is not None

@@ -12,7 +12,6 @@ import pytest
 from command import file
 from damaged import damage
 from naplps.answers import Accepted, Refusal
-from naplps.client import Client
 from naplps.treating.treatments import GUESSES, TREATMENTS, TreatmentSearch, grade_of
 from naplps_pages import messages
 from old_files import sauce
@@ -25,14 +24,6 @@ CLEARED = bytes.fromhex("0C 0E 26 52 40 40 26 49 40 40")
 WHITE = bytes.fromhex("0C 0E 3E 44 33 49 40 40 49 40 40")
 HELLO = bytes.fromhex("0C 0E 26 52 40 40 26 49 40 40 0F 48 49")
 NSR = b"\x1f\x41\x52"
-
-
-@pytest.fixture(scope="module")
-def program(naplps):
-    """The program."""
-    client = Client(naplps)
-    yield client
-    client.close()
 
 
 def cure_of(program, data):
@@ -67,24 +58,20 @@ def test_what_acts_before_the_page_is_cut_as_a_guess(program, name, page):
     assert cure.data == page and cure.changes[0].taken(front + page) == [front]
 
 
-def test_a_field_that_acts_with_parity_is_cut_as_a_guess(program):
-    page = bytes.fromhex("0E 38 40 5B 49 52 40 1B 51 40 0C 0F 0E 32 49 43 4F 40 6A 69")
-    cure = cure_of(program, with_parity(page))
-    assert outcome(cure) == ("parity+beginning", "within") and cure.data == page[10:]
+FIELD = bytes.fromhex("0E 38 40 5B 49 52 40 1B 51 40 0C 0F 0E 32 49 43 4F 40 6A 69")
 
 
-def test_parity_comes_off_before_nsr_with_its_place(program):
-    for odd in (False, True):
-        cure = cure_of(program, with_parity(NSR + HELLO, odd))
-        assert outcome(cure) == ("parity+front", "around") and cure.data == HELLO
-    assert with_parity(NSR + HELLO, True) == bytes.fromhex("1F C1 52 8C 0E 26 52 40 40 26 49 40 40 8F C8 49")
-
-
-def test_cs_with_parity_of_the_page_alone_is_cut_as_a_guess(program):
-    data = NSR + with_parity(HELLO, odd=True)
+@pytest.mark.parametrize("data, names, copy", [
+    (with_parity(FIELD), "parity+beginning", FIELD[10:]), (with_parity(NSR + HELLO), "parity+front", HELLO),
+    (bytes.fromhex("1F C1 52 8C 0E 26 52 40 40 26 49 40 40 8F C8 49"), "parity+front", HELLO),
+    (NSR + with_parity(HELLO, odd=True), "beginning+parity", HELLO[1:]),
+    (with_parity(HELLO, odd=True) + b"\x1a\xe5\xe5\xe5", "parity+end", HELLO)],
+    ids=["a field that acts", "NSR with its place", "odd parity", "CS with parity", "fills that are letters with it"])
+def test_parity_and_what_is_around_a_page(program, data, names, copy):
     cure = cure_of(program, data)
-    assert outcome(cure) == ("beginning+parity", "within")
-    assert cure.changes[0].taken(data) == [bytes.fromhex("1F 41 52 8C")] and cure.data == HELLO[1:]
+    assert outcome(cure) == (names, "around" if names == "parity+front" else "within") and cure.data == copy
+    if names == "beginning+parity":
+        assert cure.changes[0].taken(data) == [bytes.fromhex("1F 41 52 8C")]
 
 
 # What comes before a page without CS, and whether that can be none of it.
@@ -119,21 +106,16 @@ def test_what_may_come_after_a_page(program, end, is_around):
         ("around", False) if is_around else ("within", True))
 
 
-def test_fills_that_are_letters_with_the_parity_of_the_page(program):
-    cure = cure_of(program, with_parity(HELLO, odd=True) + b"\x1a\xe5\xe5\xe5")
-    assert outcome(cure) == ("parity+end", "within") and cure.data == HELLO
-
-
 def test_the_names_of_guesses_have_their_grade():
     assert not set(GUESSES) & set(TREATMENTS)
     assert [grade_of(name) for name in ("beginning", "tail+end", "beginning+parity")] == ["within"] * 3
     assert [grade_of(name) for name in ("header", "tail+header", "parity+front")] == ["around"] * 3
 
 
-def test_a_guess_is_reported_as_one(run, tmp_path):
-    front, to = bytes.fromhex(ACTING["colour and UNPROTECT"]), str(tmp_path / "to")
+def test_a_guess_is_reported_as_one(run, tmp_path, to):
+    front = bytes.fromhex(ACTING["colour and UNPROTECT"])
     path = file(tmp_path, "map.nap", front + WHITE)
-    said = run(["cures", path, "--into", to]).stdout.decode().splitlines()
+    said = run(["fix", "--only", "repair", path, "-o", to]).stdout.decode().splitlines()
     assert said[1:3] == ["beginning, within: taken away: 7 bytes before the first code", "then: accepted 2 entries"]
     assert said[5].startswith("The copy is a guess: ")
     with open(os.path.join(to, "map.nap.json"), encoding="ascii") as written:
@@ -153,7 +135,7 @@ def store(run, tmp_path):
         "plain": CLEARED, "record": b"\0\x08\xfe" + CLEARED,
         **{f"front {at}": front + CLEARED for at, front in enumerate(FRONTS)}})
     store = str(tmp_path / "pages.db")
-    assert run(["scan", pages, "--into", store, "--cures"]).returncode == 0
+    assert run(["scan", pages, "-o", store], keeps="repair").returncode == 0
     return store
 
 
@@ -163,9 +145,9 @@ def names_of(group):
 
 
 def test_equal_joins_no_pages_that_lack_what_acted(run, store):
-    (group,) = map(json.loads, run(["equal", store, "--with", "treated", "--json"]).stdout.splitlines())
+    (group,) = map(json.loads, run(["equal", store, "--include", "treated", "--json"]).stdout.splitlines())
     assert names_of(group) == ["plain", "record"]
-    _, guessed = map(json.loads, run(["equal", store, "--with", "guesses", "--json"]).stdout.splitlines())
+    _, guessed = map(json.loads, run(["equal", store, "--include", "guesses", "--json"]).stdout.splitlines())
     assert guessed["others"] == 2 and names_of(guessed) == [f"front {at}" for at in range(len(FRONTS))]
     assert {(each["treatments"], each["grade"]) for each in guessed["spellings"]} == {("beginning", "within")}
     said = run(["files", store, "--reason", "EighthBit"]).stdout.decode().splitlines()
@@ -177,15 +159,14 @@ def test_equal_verifies_the_grade_of_an_earlier_scan(run, store):
     connection.execute("UPDATE cures SET treatments = 'header', grade = 0 WHERE treatments = 'beginning'")
     connection.commit()
     connection.close()
-    said = run(["equal", store, "--with", "treated", "--verify", "--json"])
+    said = run(["equal", store, "--include", "treated", "--verify", "--json"])
     assert [names_of(json.loads(line)) for line in said.stdout.splitlines()] == [["plain", "record"]]
     assert said.returncode == 1 and said.stderr.decode().count(messages.OTHER_COPY_OF_IT) == len(FRONTS)
 
 
-def test_a_capture_whose_page_is_a_guess_is_cut_as_before(run, tmp_path):
+def test_a_capture_whose_page_is_a_guess_is_cut_as_before(run, tmp_path, to):
     capture = bytes.fromhex(ACTING["two colours of the map"]) + CLEARED + b"\x1a" + CLEARED + b"\x1b\x51"
-    to = str(tmp_path / "to")
-    said = run(["split", file(tmp_path, "capture", capture), "--into", to])
+    said = run(["fix", "--only", "split", file(tmp_path, "capture", capture), "-o", to])
     assert (said.returncode, said.stderr) == (0, b"") and len(os.listdir(to)) == 4
 
 

@@ -130,8 +130,7 @@ def test_circles(written, points):
     ("LINE 0,0 0.5,1", 14, "expected 1.0, not '1': 0.5 beside it is a fraction"),
     ("POINT 300,top", 7, "expected a fraction, not '300': top beside it is a fraction"),
     ("POINT 0,0 pel=-1,0.5", 15, "expected -1.0, not '-1': 0.5 beside it is a fraction"),
-    ("POINT top,0", 7, "expected a point x,y"),
-    ("LINE 0,0 1,1 colour=front", 21, "expected a colour (black"),
+    ("POINT top,0", 7, "expected a point x,y"), ("LINE 0,0 1,1 colour=front", 21, "expected a colour (black"),
     ("LINE 0,0 1,1 colour=pair", 21, "expected a colour (black"),
     ("LINE 0,0 1,1 colour=direct", 21, "expected a colour (black"),
     ("LINE 0,0 1,1 texture=dotty", 22, "expected a texture by its names"),
@@ -143,8 +142,7 @@ def test_circles(written, points):
     ("CIRCLE 5,5 0.6", 12, "expected a radius"), ("CIRCLE 5,5 1,1", 12, "expected a radius")])
 def test_mistakes_of_values(source, column, message):
     number, found, said = wrong(source)
-    assert (number, found) == (1, column) and said.startswith(message)
-    assert 1 <= found <= len(source) + 1
+    assert (number, found) == (1, column) and said.startswith(message) and found <= len(source) + 1
 
 
 def test_what_is_set():
@@ -213,13 +211,12 @@ def test_lists_in_other_words_come_out_as_they_are(chance, length):
 
 @pytest.mark.parametrize("source, column, said", [
     ("LIEN 0,0 1,1", 1, "as LINE, not 'LIEN'"), ("  \"A\"", 3, "expected what a line begins with"),
-    ("#x", 1, "a space behind the #"), ("LINE 0,0", 9, "expected a point x,y"),
-    ("LINE 0,0 1,1 2,2", 14, "is too much"), ("LINE 0,0 0.5;0.5", 10, "expected a point"),
-    ("LINE 0,0 0.5,1.5", 14, "not '1.5'"), ("LINE 0,0 -1,0", 10, "not '-1'"),
-    ("LINE 0,0 0,8388608", 12, "not '8388608'"), ("LINE 0,0 1,1 pel=1", 18, "expected a size x,y"),
-    ("LINE 0,0 1,1 pel=0,-1.1", 20, "not '-1.1'"), ("LINE 0,0 1,1 pel=0,0 pel=0,0", 22, "stands twice"),
-    ("LINE 0,0 1,1 pen=0,0", 14, "'pen' is no field here"), ("LINE 0,0 1,1 colour=rde", 21, "expected a colour"),
-    ("LINE 0,0 1,1 colour=#fff", 21, "six hexadecimal digits"),
+    ("#x", 1, "a space behind the #"), ("LINE 0,0", 9, "expected a point x,y"), ("LINE 0,0 1,1 2,2", 14, "is too much"),
+    ("LINE 0,0 0.5;0.5", 10, "expected a point"), ("LINE 0,0 0.5,1.5", 14, "not '1.5'"),
+    ("LINE 0,0 -1,0", 10, "not '-1'"), ("LINE 0,0 0,8388608", 12, "not '8388608'"),
+    ("LINE 0,0 1,1 pel=1", 18, "expected a size x,y"), ("LINE 0,0 1,1 pel=0,-1.1", 20, "not '-1.1'"),
+    ("LINE 0,0 1,1 pel=0,0 pel=0,0", 22, "stands twice"), ("LINE 0,0 1,1 pen=0,0", 14, "'pen' is no field here"),
+    ("LINE 0,0 1,1 colour=rde", 21, "expected a colour"), ("LINE 0,0 1,1 colour=#fff", 21, "six hexadecimal digits"),
     ("LINE 0,0 1,1 colour=direct:1,2", 28, "green, red and blue"),
     ("LINE 0,0 1,1 colour=direct:1,2,65536", 32, "not '65536'"),
     ("LINE 0,0 1,1 colour=front:16/16", 27, "from 0 to 15"), ("LINE 0,0 1,1 colour=front:1/15", 29, "a power of two"),
@@ -233,11 +230,10 @@ def test_lists_in_other_words_come_out_as_they_are(chance, length):
     ("BLINK 1 1,64,1", 11, "from 0 to 63"), ("WAIT", 5, "from 0 to 63"), ("WAIT 64", 6, "from 0 to 63"),
     ("WAIT +5", 6, "not '+5'"), ("CURSOR on", 8, "flash, steady or off"), ("FIELD 0,0", 10, "expected a point"),
     ("FIELD whole 0,0", 13, "too much"), ("RESET 1", 8, "from 0 to 63"), ("GLYPH", 6, "a code"),
-    ("MASK E", 6, "A, B, C or D"), ("BELL 1", 6, "too much"), ("BELL \"a\"", 6, "too much"),
-    ("SET red", 5, "too much"), ("SET pen=0,0", 5, "no field"), ("SET \"a\"", 5, "too much"),
-    ("TEXT", 5, "a text between quotes"), ("TEXT \"\"", 6, "of a letter at least"),
-    ("TEXT \"a\" \"b\"", 10, "one text"), ("TEXT \"a", 6, "isn't ended"), ("TEXT \"a\\", 8, "behind a backslash"),
-    ("TEXT \"a\\n\"", 8, "behind a backslash"), ("TEXT \"a\"b", 9, "a space"),
+    ("MASK E", 6, "A, B, C or D"), ("BELL 1", 6, "too much"), ("BELL \"a\"", 6, "too much"), ("SET red", 5, "too much"),
+    ("SET pen=0,0", 5, "no field"), ("SET \"a\"", 5, "too much"), ("TEXT", 5, "a text between quotes"),
+    ("TEXT \"\"", 6, "of a letter at least"), ("TEXT \"a\" \"b\"", 10, "one text"), ("TEXT \"a", 6, "isn't ended"),
+    ("TEXT \"a\\", 8, "behind a backslash"), ("TEXT \"a\\n\"", 8, "behind a backslash"), ("TEXT \"a\"b", 9, "a space"),
     ("TEXT x\"a\"", 7, "a word of its own"), ("TEXT \"a\u0416\"", 8, "not '\u0416'"),
     ("TEXT \"a\\\"e\u0301\u0301\"", 10, "with one accent at most"), ("TEXT text=big \"a\"", 11, "expected a size"),
     ("TEXT text=0,0/tall/---- \"a\" x", 29, "too much"), ("TEXT text=0,0/tall/uuuu \"a\"", 20, "four flags"),

@@ -49,23 +49,15 @@ def test_long_lines_and_deep_quotes(source):
     assert len(places(source)) == 1
 
 
-def test_comments_and_blanks_of_any_length_are_none():
+def test_how_many_mistakes_there_are():
     assert places("# " + "x" * 60000 + "\n" + " " * 60000) == []
+    assert len(places("X\n" * MILLION)) == len(places("\x00\n" * MILLION)) == MOST_MISTAKES
 
 
-def test_no_more_mistakes_than_are_told():
-    assert len(places("X\n" * MILLION)) == MOST_MISTAKES
-    assert len(places("\x00\n" * MILLION)) == MOST_MISTAKES
-
-
-@given(st.lists(st.sampled_from(WORDS), max_size=60).map("".join))
-def test_words_by_chance(source):
-    places(source)
-
-
-@given(st.text(max_size=200))
-def test_text_by_chance(source):
-    places(source)
+@given(st.lists(st.sampled_from(WORDS), max_size=60).map("".join), st.text(max_size=200))
+def test_words_and_text_by_chance(words, text):
+    places(words)
+    places(text)
 
 
 def test_what_is_made_has_a_bound():

@@ -68,24 +68,19 @@ NO_CAPTURES = {
     "an announcer that isn't whole": ONE + "1B 22"}
 
 
-def of(text):
-    """The bytes of digits."""
-    return bytes.fromhex(text)
-
-
 @pytest.mark.parametrize("name", DRAW)
 def test_bytes_that_draw(name):
-    assert draws(of(DRAW[name]))
+    assert draws(bytes.fromhex(DRAW[name]))
 
 
 @pytest.mark.parametrize("name", NOT)
 def test_bytes_that_do_not_draw(name):
-    assert not draws(of(NOT[name]))
+    assert not draws(bytes.fromhex(NOT[name]))
 
 
 @pytest.mark.parametrize("name", CAPTURES)
 def test_a_capture_is_cut_at_its_borders(name):
-    data, wanted = of(CAPTURES[name][0]), CAPTURES[name][1]
+    data, wanted = bytes.fromhex(CAPTURES[name][0]), CAPTURES[name][1]
     assert [tuple(each) for each in pieces(data)] == wanted
     assert pages_in(data) == sum(each[4] for each in wanted)
     for odd in (False, True):
@@ -95,7 +90,8 @@ def test_a_capture_is_cut_at_its_borders(name):
 
 @pytest.mark.parametrize("name", NO_CAPTURES)
 def test_nothing_else_is_a_capture(name):
-    assert pieces(of(NO_CAPTURES[name])) == [] and pages_in(of(NO_CAPTURES[name])) == 0
+    data = bytes.fromhex(NO_CAPTURES[name])
+    assert pieces(data) == [] and pages_in(data) == 0
 
 
 def test_captures_of_the_eight_bit_form():
@@ -105,12 +101,9 @@ def test_captures_of_the_eight_bit_form():
     assert not pieces(wide) and not pieces(wide + b"\x1a\x1a")
 
 
-def test_no_page_of_the_examples_is_a_capture():
+def test_no_page_of_the_examples_no_vector_and_no_row_is_a_capture():
     for name, data in {**gallery.pages(), "logo": LOGO, "macro": MACRO}.items():
         assert pages_in(data) == 0 and draws(data), name
-
-
-def test_no_vector_and_no_row_is_a_capture():
     streams = [bytes_of(vector.stream) for file in files() for vector in vectors_of(file)]
     streams += [row.stream for row in rows_of(Path(TOP, "crates", "nap_rows", "data"))]
     assert len(streams) > 4000 and [data.hex() for data in streams if pages_in(data)] == []
@@ -118,11 +111,10 @@ def test_no_vector_and_no_row_is_a_capture():
 
 @pytest.mark.parametrize("text, wanted", [
     (ONE + "0C", True), (ONE + "20 48", True), (ONE + "0F 48 0E 20 7F", True), (TWO + TWO, True),
-    (ONE + "20 40", False),
-    (ONE + "20 58", False), (ONE + "20", False), ("0C " + ONE, False), ("0E 20 7F 26 52", False), (TEXT + "0C", False),
-    (ONE + "1B 40 41 0C 1B 45", False), (ONE + "0F 20 48", False)])
+    (ONE + "20 40", False), (ONE + "20 58", False), (ONE + "20", False), ("0C " + ONE, False),
+    ("0E 20 7F 26 52", False), (TEXT + "0C", False), (ONE + "1B 40 41 0C 1B 45", False), (ONE + "0F 20 48", False)])
 def test_a_page_that_clears_the_screen_again(text, wanted):
-    assert clears_again(of(text)) is wanted and not pieces(of(text))
+    assert clears_again(bytes.fromhex(text)) is wanted and not pieces(bytes.fromhex(text))
 
 
 def test_what_is_text_alone():
@@ -138,26 +130,21 @@ SOME = st.lists(st.one_of(st.sampled_from([POINT, b"\x1f", b"\x18", b"\x1a", b"\
 
 
 @given(SOME)
-def test_codes_have_all_bytes(data):
+def test_codes_have_all_bytes_and_are_found_outside_of_bodies(data):
     at = 0
     for each in codes(data):
         assert each.start == at < each.end
         at = each.end
     assert at == len(data)
+    for found in outside(data, tokens(rb"\x1f")):
+        assert data[found.start()] == 0x1F
 
 
 @given(SOME)
 def test_parts_and_what_is_between_them_are_the_source(data):
-    at = 0
-    some = pieces(data)
+    at, some = 0, pieces(data)
     for each in some:
         assert each.offset - each.before == at
         at = each.end
     assert at <= len(data) and len(some) != 1 and (not some or some[0].draws and some[-1].draws)
     assert not any(draws(data[each.offset - each.before:each.offset]) for each in some if not data.count(b"\x1b\x40"))
-
-
-@given(SOME)
-def test_codes_outside_of_bodies(data):
-    for each in outside(data, tokens(rb"\x1f")):
-        assert data[each.start()] == 0x1F

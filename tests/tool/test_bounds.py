@@ -11,7 +11,7 @@ import pytest
 from command import COMMAND, file
 from naplps import Char
 from naplps.entry import read_line
-from naplps_pages.commands.census import Census
+from naplps_pages.collection.census import Census
 from naplps_pages.schema import AT_ONCE, dumps, pieces_of
 from samples import MACRO, has
 
@@ -69,10 +69,10 @@ def test_nothing_is_printed_of_what_is_no_list(run, fake, tmp_path, at):
 def test_a_census_of_many_codes_is_linear():
     names, census = [f"code {number}" for number in range(100_000)], Census()
     start = time.process_time()
-    census.take(names)
+    census.note(names)
     assert time.process_time() - start < 10  # (a quadratic one takes some minutes)
     assert len(census.rows) == 100_000 and {row.only for row in census.rows.values()} == {0}
-    census.take(["code 5", "code 5"])
+    census.note(["code 5", "code 5"])
     assert census.rows["code 5"].only == 1 and census.rows["code 5"].times == 3
 
 

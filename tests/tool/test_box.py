@@ -3,9 +3,7 @@ once, whatever ends it.
 
 KILLED names how often a run is ended at a moment by chance, and BOXED how many files the box has.
 """
-import csv
 import hashlib
-import io
 import json
 import os
 import re
@@ -18,9 +16,11 @@ from random import Random
 
 import pytest
 
+from box_runs import FOLDERS, box_words, note_of, table
 from command import COMMAND, file
 from folders import files_in
 from forked import forked
+from gallery import stored
 from mixed_box import write
 from naplps_pages.box import making
 from reports import held
@@ -47,24 +47,22 @@ for line in iter(sys.stdin.buffer.readline, b""):
 """
 
 # The files of a box, and those that are the same bytes whenever it is made.
-FILES = {"box.db", "box.json", "pages.db", "index.html", "files.csv", "cut.csv"}
-FOLDERS = ("canonical", "readable", "captures", "carved")
+FILES = {"box.db", "box.json", "kept.db", "index.html", "files.csv", "cut.csv"}
 
 
 @pytest.fixture(scope="module")
 def mixed(naplps, tmp_path_factory):
     """A folder of files of all kinds."""
-    folder = tmp_path_factory.mktemp("mixed") / "disks"
-    folder.mkdir()
-    write(str(folder), BOXED, 1992, naplps)
-    return str(folder)
+    folder = str(tmp_path_factory.mktemp("disks"))
+    write(folder, BOXED, 1992, naplps)
+    return folder
 
 
 @pytest.fixture(scope="module")
 def place(mixed, naplps, tmp_path_factory):
     """The box of these files, and what was printed."""
     made = str(tmp_path_factory.mktemp("made") / "box")
-    ran = subprocess.run([COMMAND, "box", mixed, "--into", made], capture_output=True, timeout=900,
+    ran = subprocess.run([COMMAND, "box", mixed, "-o", made], capture_output=True, timeout=900,
                          env=dict(os.environ, NAPLPS=naplps))
     assert (ran.returncode, ran.stderr) == (0, b""), ran
     return made, ran.stdout.decode()
@@ -76,11 +74,6 @@ def byte_of(escape):
     return bytes([int(digits[1:], 16) if digits.startswith(b"x") else int(digits, 8)])
 
 
-def notes_in(folder):
-    """The notes below a folder."""
-    return [json.loads(data) for name, data in files_in(folder).items() if name.endswith(b".json")]
-
-
 def without_dates(report):
     """A report without the time of its scan."""
     return re.sub(rb"<time>[^<]*</time>", b"", report)
@@ -90,7 +83,7 @@ def tables_of(place):
     """The tables of its store, and its files but these, as they are independent of when it was made and in how many
     runs."""
     tables = every_table(os.path.join(place, "box.db"))
-    files = {name: data for name, data in files_in(place).items() if name not in (b"box.db", b"pages.db")}
+    files = {name: data for name, data in files_in(place).items() if name not in (b"box.db", b"kept.db")}
     files[b"index.html"] = without_dates(files[b"index.html"])
     assert len(tables.pop("runs")) > 0
     tables["roots"] = sorted(set(tables["roots"]))
@@ -103,21 +96,21 @@ def separately(run, folder, into):
     store = os.path.join(into, "box.db")
 
     def ran(*words, statuses=(0, 1)):
-        got = run([words[0], *words[1:]])
+        got = run([*words], keeps="words repair")
         assert got.returncode in statuses, got
         return got.stdout
-    ran("scan", folder, "--into", store, "--words", "--cures", statuses=(0,))
-    with open(os.path.join(into, "files.csv"), "wb") as table:
-        table.write(ran("files", store, "--csv"))
-    ran("canon", store, "--into", os.path.join(into, "canonical"), statuses=(0,))
-    ran("cures", store, "--into", os.path.join(into, "readable"))
-    ran("split", store, "--into", os.path.join(into, "captures"))
+    ran("scan", folder, "-o", store, statuses=(0,))
+    file(into, "files.csv", ran("files", store, "--csv"))
+    ran("canon", store, "-o", os.path.join(into, "canonical"), statuses=(0,))
+    ran("fix", store, "--only", "repair", "-o", os.path.join(into, "readable"))
+    ran("fix", store, "--only", "split", "-o", os.path.join(into, "captures"))
     some = list(map(json.loads, ran("files", store, "--json", "--refused").splitlines()))
-    captures = {note["source"]["sha256"] for note in notes_in(os.path.join(into, "captures"))}
+    cut = files_in(os.path.join(into, "captures"))
+    captures = {json.loads(data)["source"]["sha256"] for name, data in cut.items() if name.endswith(b".json")}
     names = [os.fsdecode(bytes.fromhex(it["name_hex"])) if "name_hex" in it else it["name"] for it in some
              if it["treated_hash"] is None and it["hash"] not in captures]
     assert any(it["looks_like"] == "disk of DOS" for it in some)
-    ran("carve", *names, "--into", os.path.join(into, "carved"))
+    ran("fix", "--only", "carve", *names, "-o", os.path.join(into, "carved"))
     ran("report", store, "-o", os.path.join(into, "index.html"), statuses=(0,))
 
 
@@ -129,33 +122,28 @@ def test_it_makes_what_the_single_commands_make(run, mixed, place, tmp_path):
         one, other = files_in(tmp_path / folder), files_in(os.path.join(made, folder))
         assert len(one) > 5 and set(one) == set(other), folder
         assert one == other, folder
-    one, other = files_in(tmp_path), files_in(made)
-    rows = rows_of(other[b"files.csv"])
+    rows = table(made, "files.csv")
     assert [row.pop("readable") != "" for row in rows] == [row["treated_hash"] != "" for row in rows]
-    assert rows_of(one[b"files.csv"]) == rows
-    assert without_dates(one[b"index.html"]) == without_dates(other[b"index.html"])
+    assert table(tmp_path, "files.csv") == rows
+    one, other = (without_dates(files_in(each)[b"index.html"]) for each in (tmp_path, made))
+    assert one == other
     tables = [every_table(os.path.join(str(each), "box.db")) for each in (tmp_path, made)]
     for each in tables:
         each.pop("runs")
     assert tables[0] == tables[1]
 
 
-def rows_of(data):
-    return list(csv.DictReader(io.StringIO(data.decode())))
-
-
 def test_its_ten_lines_are_right_to_the_number(place):
     made, told = place
     lines = told.splitlines()
     numbers = {line.split(":")[0]: list(map(int, re.findall(r"\d+", line.split(":", 1)[1]))) for line in lines}
-    files = files_in(made)
-    rows = rows_of(files[b"files.csv"])
+    rows = table(made, "files.csv")
     accepted = [row for row in rows if row["status"] == "accepted"]
     kinds = [sum(row["kind"] == kind for row in accepted) for kind in ("page", "text", "blank")]
     captures = [row for row in rows if row["kind"] == "capture"]
     copies = [row for row in rows if row["treated_hash"]]
     refused = [row for row in rows if row["status"] == "refused" and not row["treatments"] and not row["kind"]]
-    cut = rows_of(files[b"cut.csv"])
+    cut = table(made, "cut.csv")
     carved = [row for row in cut if row["how"] == "carve"]
     assert len(lines) == 10
     assert numbers["files"] == [len(rows)]
@@ -177,68 +165,59 @@ def test_its_ten_lines_are_right_to_the_number(place):
 
 def test_pages_that_were_cut_stand_in_a_table_with_source_and_offset(mixed, place):
     made, _ = place
-    files = files_in(made)
-    sources = files_in(mixed)
-    rows = rows_of(files[b"cut.csv"])
-    paths = {os.fsdecode(name): data for name, data in files.items()}
-    looked = 0
+    files, sources, rows, looked = files_in(made), files_in(mixed), table(made, "cut.csv"), 0
     for row in rows:
-        source = os.path.relpath(row["source"], mixed)
-        if row["path"] in paths and os.fsencode(source) in sources:
+        path, source = os.fsencode(row["path"]), os.fsencode(os.path.relpath(row["source"], mixed))
+        if path in files and source in sources:
             at, length = int(row["offset"]), int(row["bytes"])
-            assert paths[row["path"]] == sources[os.fsencode(source)][at:at + length]
+            assert files[path] == sources[source][at:at + length]
             looked += 1
     assert looked > len(rows) // 2 > 10
-    ends = (b".json", b".csv")
-    assert len(rows) == sum(name.split(b"/")[0] in (b"captures", b"carved") and not name.endswith(ends)
+    assert len(rows) == sum(name.split(b"/")[0] in (b"captures", b"carved") and not name.endswith((b".json", b".csv"))
                             for name in files)
 
 
 def test_again_it_asks_nothing_and_changes_nothing(run, mixed, place):
     made, told = place
     before, names = tables_of(made), sorted(files_in(made))
-    ran = run(["box", mixed, "--into", made])
+    ran = run(["box", mixed, "-o", made])
     assert (ran.returncode, ran.stderr, ran.stdout.decode()) == (0, b"", told)
     assert (tables_of(made), sorted(files_in(made))) == (before, names)
 
 
 def test_a_folder_that_is_no_box_stays_as_it_is(run, mixed, tmp_path):
-    other = tmp_path / "other"
-    other.mkdir()
-    file(other, "letter.txt", b"mine")
-    ran = run(["box", mixed, "--into", str(other)])
+    file(tmp_path, "letter.txt", b"mine")
+    ran = run(["box", mixed, "-o", str(tmp_path)])
     assert ran.returncode == 3 and b"isn't empty, and is no box of this tool: it has letter.txt" in ran.stderr
-    assert files_in(other) == {b"letter.txt": b"mine"}
+    assert files_in(tmp_path) == {b"letter.txt": b"mine"}
 
 
 def test_a_file_of_somebody_else_in_place_of_one_of_its_own_stays(run, tmp_path):
     disks, place = tmp_path / "disks", tmp_path / "box"
     tree(disks, {"a.nap": POINT, "sick.nap": POINT + b"\x1a"})
-    assert run(["box", str(disks), "--into", str(place)]).returncode == 0
+    assert run(box_words(tmp_path)).returncode == 0
     for name in ("files.csv", "readable/sick.nap"):
         (place / name).write_bytes(b"mine")
     tree(disks, {"b.nap": SPELLED})
-    ran = run(["box", str(disks), "--into", str(place)])
-    assert ran.returncode == 1 and ran.stderr.decode().splitlines() == [
+    ran = run(box_words(tmp_path))
+    assert ran.returncode == 3 and ran.stderr.decode().splitlines() == [
         f"naplps-pages: {place}/{name}: isn't as the box made it, and isn't written over: move it away, and the same "
         "command makes it anew" for name in ("readable/sick.nap", "files.csv")]
     assert (place / "files.csv").read_bytes() == (place / "readable/sick.nap").read_bytes() == b"mine"
     for name in ("files.csv", "readable/sick.nap"):
         os.unlink(place / name)
-    assert run(["box", str(disks), "--into", str(place)]).returncode == 0
-    assert len(rows_of((place / "files.csv").read_bytes())) == 3
+    assert run(box_words(tmp_path)).returncode == 0
+    assert len(table(place, "files.csv")) == 3
     assert (place / "readable" / "sick.nap").read_bytes() == POINT
 
 
 def test_a_copy_of_a_file_that_changed_is_made_anew(run, tmp_path):
-    disks, place = tmp_path / "disks", tmp_path / "box"
-    tree(disks, {"sick.nap": POINT + b"\x1a"})
-    assert run(["box", str(disks), "--into", str(place)]).returncode == 0
-    tree(disks, {"sick.nap": SPELLED + b"\x1a\x1a"})
-    assert run(["box", str(disks), "--into", str(place)]).stderr == b""
-    assert (place / "readable" / "sick.nap").read_bytes() == SPELLED
-    note = json.loads((place / "readable" / "sick.nap.json").read_bytes())
-    assert note["source"]["sha256"] == hashlib.sha256(SPELLED + b"\x1a\x1a").hexdigest()
+    for data, copy in ((POINT + b"\x1a", POINT), (SPELLED + b"\x1a\x1a", SPELLED)):
+        tree(tmp_path / "disks", {"sick.nap": data})
+        made_in(run, tmp_path)
+        assert (tmp_path / "box" / "readable" / "sick.nap").read_bytes() == copy
+        note = note_of(tmp_path / "box", "readable/sick.nap")
+        assert note["source"]["sha256"] == hashlib.sha256(data).hexdigest()
 
 
 @pytest.mark.parametrize("into", ["", ".", "below", "below/deeper", "link/box"])
@@ -247,33 +226,33 @@ def test_a_place_within_what_is_searched_is_refused(run, tmp_path, into):
     tree(disks, {"a.nap": POINT, "below/b.nap": POINT})
     (tmp_path / "link").symlink_to(disks / "below")
     place = str(tmp_path / into) if into.startswith("link") else os.path.join(str(disks), into)
-    ran = run(["box", str(disks), "--into", place])
+    ran = run(["box", str(disks), "-o", place])
     assert ran.returncode == 3 and f"stands in {disks}, of which it would be the box" in ran.stderr.decode()
     assert set(files_in(disks)) == {b"a.nap", b"below/b.nap"}
 
 
 def test_a_folder_within_the_place_is_refused(run, tmp_path):
-    tree(tmp_path / "box", {"disks/a.nap": POINT})
-    ran = run(["box", str(tmp_path / "box" / "disks"), "--into", str(tmp_path / "box")])
+    tree(tmp_path, {"disks/a.nap": POINT})
+    ran = run(["box", str(tmp_path / "disks"), "-o", str(tmp_path)])
     assert ran.returncode == 3 and b"a box has a folder of its own" in ran.stderr
-    assert set(files_in(tmp_path / "box")) == {b"disks/a.nap"}
+    assert set(files_in(tmp_path)) == {b"disks/a.nap"}
 
 
 def test_what_is_foreign_in_a_box_is_refused_before_anything_is_written(run, tmp_path):
     disks, place = tmp_path / "disks", tmp_path / "box"
     tree(disks, {"a.nap": POINT})
     tree(tmp_path, {"mine/letter": b"mine"})
-    assert run(["box", str(disks), "--into", str(place)]).returncode == 0
+    assert run(box_words(tmp_path)).returncode == 0
     tree(disks, {"b.nap": SPELLED, "sick.nap": POINT + b"\x1a"})
     before = files_in(place)
 
     def refused(name, why):
-        ran = run(["box", str(disks), "--into", str(place)])
+        ran = run(box_words(tmp_path))
         assert ran.returncode == 3 and f"{place}/{name}: {why}" in ran.stderr.decode(), ran
     os.symlink(tmp_path / "mine", place / "readable")
     refused("readable", "isn't a folder of the box, which has one of that name; move it away")
     os.unlink(place / "readable")
-    for name in ("box.db", "pages.db", "index.html"):
+    for name in ("box.db", "kept.db", "index.html"):
         os.rename(place / name, tmp_path / "kept")
         os.symlink(tmp_path / "mine" / "letter", place / name)
         refused(name, "isn't a file of the box, which has one of that name; move it away")
@@ -284,23 +263,22 @@ def test_what_is_foreign_in_a_box_is_refused_before_anything_is_written(run, tmp
         refused("box.json", "isn't the marker of a box of this tool")
     os.replace(tmp_path / "kept", place / "box.json")
     assert files_in(place) == before and files_in(tmp_path / "mine") == {b"letter": b"mine"}
-    assert run(["box", str(disks), "--into", str(place)]).returncode == 0
+    assert run(box_words(tmp_path)).returncode == 0
 
 
 def test_a_box_of_other_folders_is_refused(run, tmp_path):
-    for name in ("one", "other"):
+    for name in ("disks", "other"):
         tree(tmp_path / name, {"a.nap": POINT})
-    place = tmp_path / "box"
-    assert run(["box", str(tmp_path / "one"), "--into", str(place)]).returncode == 0
-    before = files_in(place)
-    ran = run(["box", str(tmp_path / "other"), "--into", str(place)])
-    assert ran.returncode == 3 and f"is the box of {tmp_path}/one" in ran.stderr.decode()
-    assert files_in(place) == before
+    assert run(box_words(tmp_path)).returncode == 0
+    before = files_in(tmp_path / "box")
+    ran = run(["box", str(tmp_path / "other"), "-o", str(tmp_path / "box")])
+    assert ran.returncode == 3 and f"is the box of {tmp_path}/disks" in ran.stderr.decode()
+    assert files_in(tmp_path / "box") == before
 
 
 def test_folders_that_are_not_there_leave_nothing(run, tmp_path):
-    ran = run(["box", str(tmp_path / "none"), "--into", str(tmp_path / "box")])
-    assert ran.returncode == 1 and b"No such file or directory" in ran.stderr
+    ran = run(box_words(tmp_path))
+    assert ran.returncode == 3 and b"No such file or directory" in ran.stderr
     assert not (tmp_path / "box").exists()
 
 
@@ -310,20 +288,20 @@ def test_a_folder_that_cannot_be_read_is_told(run_as_nobody, tmp_path):
     tree(work / "disks", {"a.nap": POINT, "shut/b.nap": POINT})
     os.chown(work, 65534, 65534)
     (work / "disks" / "shut").chmod(0)
-    ran = run_as_nobody("box", "disks", "--into", "box", cwd=str(work))
-    assert ran.returncode == 1 and ran.stderr.endswith(b"/disks/shut: Permission denied\n")
+    ran = run_as_nobody("box", "disks", "-o", "box", cwd=str(work))
+    assert ran.returncode == 3 and ran.stderr.endswith(b"/disks/shut: Permission denied\n")
     assert b"\nnot read:        1 folder unreadable\n" in ran.stdout
     assert b"<dt>unreadable folders</dt><dd>1</dd>" in (work / "box" / "index.html").read_bytes()
 
 
 def test_two_at_once(naplps, run, fake, tmp_path):
-    disks, place, go = tmp_path / "disks", tmp_path / "box", tmp_path / "go"
-    tree(disks, {f"{number}.nap": b"page %d" % number for number in range(20)})
+    place, go = tmp_path / "box", tmp_path / "go"
+    tree(tmp_path / "disks", {f"{number}.nap": b"page %d" % number for number in range(20)})
     waits = (f"while not os.path.exists({str(go)!r}): time.sleep(0.01)\n"
              f"os.execv({naplps!r}, [{naplps!r}, *sys.argv[1:]])")
-    first = start(["box", str(disks), "--into", str(place), "--seconds", "900"], fake(waits))
+    first = start(box_words(tmp_path, "--timeout", "900"), fake(waits))
     wait_until(lambda: (place / "box.lock").exists() and (place / "box.lock").read_bytes(), first)
-    ran = run(["box", str(disks), "--into", str(place)])
+    ran = run(box_words(tmp_path))
     assert ran.returncode == 3
     assert f"another run is at work on it: process {first.pid}" in ran.stderr.decode()
     go.touch()
@@ -336,13 +314,13 @@ def test_killed_at_any_moment_it_continues_to_the_same_folder(naplps, mixed, pla
     chance, again = Random(7), str(tmp_path / "box")
     ends = [signal.SIGKILL, signal.SIGTERM, signal.SIGINT, signal.SIGKILL]
     for number in range(KILLED):
-        process = start(["box", mixed, "--into", again], naplps)
+        process = start(["box", mixed, "-o", again], naplps)
         try:
             process.wait(chance.uniform(0.2, 1.5 + number / 2))
         except subprocess.TimeoutExpired:
             process.send_signal(ends[number % len(ends)])
         process.communicate()
-    process = start(["box", mixed, "--into", again], naplps)
+    process = start(["box", mixed, "-o", again], naplps)
     told, complaint = process.communicate()
     assert (process.returncode, complaint) == (0, b"")
     assert told.decode().replace(again, place[0]) == place[1]
@@ -352,10 +330,15 @@ def test_killed_at_any_moment_it_continues_to_the_same_folder(naplps, mixed, pla
 
 def test_a_full_disk_gets_a_message_and_loses_nothing(run, mixed, place, small_disk):
     into = os.path.join(small_disk, "box")
-    ran = run(["box", mixed, "--into", into])
+    ran = run(["box", mixed, "-o", into])
     assert ran.returncode == 3 and re.search(b"No space left on device|database or disk is full", ran.stderr), ran
     subprocess.run(["mount", "-o", "remount,size=200m", small_disk], check=True)
-    ran = run(["box", mixed, "--into", into])
+    assert_made_as(run, mixed, into, place)
+
+
+def assert_made_as(run, mixed, into, place):
+    """The same command comes to its end, and to the same folder."""
+    ran = run(["box", mixed, "-o", into])
     assert (ran.returncode, ran.stderr) == (0, b"")
     assert tables_of(into) == tables_of(place[0])
 
@@ -363,24 +346,18 @@ def test_a_full_disk_gets_a_message_and_loses_nothing(run, mixed, place, small_d
 @pytest.mark.parametrize("most", [4096, 100_000, 400_000])
 def test_files_that_may_not_become_long_get_a_message_and_lose_nothing(naplps, run, mixed, place, tmp_path, most):
     into = str(tmp_path / "box")
-    ran = subprocess.run([COMMAND, "box", mixed, "--into", into], capture_output=True,
+    ran = subprocess.run([COMMAND, "box", mixed, "-o", into], capture_output=True,
                          env=dict(os.environ, NAPLPS=naplps),
                          preexec_fn=lambda: resource.setrlimit(resource.RLIMIT_FSIZE, (most, most)))
     assert ran.returncode == 3 and ran.stderr.count(b"\n") == 1 and b"the tool itself failed" not in ran.stderr, ran
-    ran = run(["box", mixed, "--into", into])
-    assert (ran.returncode, ran.stderr) == (0, b"")
-    assert tables_of(into) == tables_of(place[0])
+    assert_made_as(run, mixed, into, place)
 
 
 def test_each_file_is_opened_once_and_each_page_is_asked_about_once(naplps, fake, mixed, tmp_path):
-    log = str(tmp_path / "log")
-    program = fake(LOGS.format(naplps, log))
-    into = str(tmp_path / "box")
-    process = start(["box", mixed, "--into", into, "--processes", "3"], program)
+    log, into = tmp_path / "log", str(tmp_path / "box")
+    process = start(["box", mixed, "-o", into, "--jobs", "3"], fake(LOGS.format(naplps, str(log))))
     assert process.communicate()[1] == b""
-    with open(log, encoding="ascii") as asked:
-        counts = Counter(asked.read().splitlines())
-    rows = rows_of(files_in(into)[b"files.csv"])
+    counts, rows = Counter(log.read_text("ascii").splitlines()), table(into, "files.csv")
     # (the empty page is asked about first of all, and several files may have one treated copy)
     of_pages = {row["hash"] for row in rows} - {row["treated_hash"] for row in rows} - {hashlib.sha256(b"").hexdigest()}
     canon = {line.split()[1]: number for line, number in counts.items() if line.startswith("canon ")}
@@ -390,37 +367,30 @@ def test_each_file_is_opened_once_and_each_page_is_asked_about_once(naplps, fake
 
 @needs_strace
 def test_no_file_is_opened_twice(naplps, mixed, tmp_path):
-    trace = str(tmp_path / "trace")
-    subprocess.run(["strace", "-f", "-e", "trace=openat", "-y", "-s", "4096", "-o", trace, COMMAND, "box", mixed,
-                    "--into", str(tmp_path / "box"), "--processes", "2"], check=True, capture_output=True,
+    trace = tmp_path / "trace"
+    subprocess.run(["strace", "-f", "-e", "trace=openat", "-y", "-s", "4096", "-o", str(trace), COMMAND, "box", mixed,
+                    "-o", str(tmp_path / "box"), "--jobs", "2"], check=True, capture_output=True,
                    env=dict(os.environ, NAPLPS=naplps))
-    opened = Counter()
-    with open(trace, "rb") as lines:
-        for line in lines:
-            found = re.search(rb"= \d+<(/.*)>$", line.rstrip())
-            if found:
-                opened[re.sub(rb"\\([0-7]{3}|x[0-9a-f]{2})", byte_of, found[1])] += 1
+    opened = Counter(re.sub(rb"\\([0-7]{3}|x[0-9a-f]{2})", byte_of, found) for found in re.findall(
+        rb"(?m)= \d+<(/.*)>\s*$", trace.read_bytes()))
     files = [os.path.join(os.fsencode(mixed), name) for name in files_in(mixed)]
     assert len(files) > 100 and {opened[path] for path in files} == {1}
 
 
 def test_pages_are_found_in_a_file_too_long_for_a_page(run, tmp_path):
-    disks, place = tmp_path / "disks", tmp_path / "box"
-    at = (17 << 20) + 300
+    disks, place, at = tmp_path / "disks", tmp_path / "box", (17 << 20) + 300
     data = Random(3).randbytes(1 << 20) * 17 + bytes(300) + logo() + bytes(2 << 20)
     tree(disks, {"disk.img": data, "film.img": b"\xff\xd8\xff" + data})
-    ran = run(["box", str(disks), "--into", str(place)])
-    assert ran.returncode in (0, 1), ran
-    row, film = rows_of((place / "cut.csv").read_bytes())
-    assert (row["source"], row["how"]) == (f"{disks}/disk.img", "carve")
+    ran = run(box_words(tmp_path))
+    assert (ran.returncode, ran.stderr) == (0, b"")
+    row, film = table(place, "cut.csv")
+    assert (row["source"], row["how"], int(row["offset"])) == (f"{disks}/disk.img", "carve", at)
     assert (film["source"], int(film["offset"])) == (f"{disks}/film.img", at + 3)
-    made = place / "carved" / f"disk.img-{int(row['offset']):010}.nap"
-    cut = made.read_bytes()
-    assert cut == data[int(row["offset"]):int(row["offset"]) + int(row["bytes"])] and int(row["offset"]) == at
-    note = json.loads((place / "carved" / f"{made.name}.json").read_bytes())
-    assert note["source"] == {"bytes": len(data), "sha256": hashlib.sha256(data).hexdigest()}
+    made = f"carved/disk.img-{at:010}.nap"
+    assert (place / made).read_bytes() == data[at:at + int(row["bytes"])]
+    assert note_of(place, made)["source"] == {"bytes": len(data), "sha256": hashlib.sha256(data).hexdigest()}
     assert "carved:          2 pages out of 2 files, in carved" in ran.stdout.decode()
-    again = run(["box", str(disks), "--into", str(place)])
+    again = run(box_words(tmp_path))
     assert (again.stdout, again.returncode) == (ran.stdout, ran.returncode)
 
 
@@ -430,41 +400,68 @@ def test_a_long_file_outside_of_the_folders_is_not_read(naplps, tmp_path, monkey
     tree(tmp_path, {"disks/top/disk.img": data + bytes(2000),
                     "outside/disk.img": data + logo() + bytes(2000 - len(logo()))})
     for name in ("disks/top/disk.img", "outside/disk.img"):
-        os.utime(str(tmp_path / name), (1e9, 1e9))
-    carve = making.carve_long
+        os.utime(tmp_path / name, (1e9, 1e9))
+    carve, top = making.carve_long, tmp_path / "disks" / "top"
 
     def exchanged(*given):
-        os.rename(str(tmp_path / "disks" / "top"), str(tmp_path / "disks" / "moved"))
-        os.symlink("../outside", str(tmp_path / "disks" / "top"))
+        top.rename(tmp_path / "disks" / "moved")
+        top.symlink_to("../outside")
         return carve(*given)
     monkeypatch.setattr(making, "carve_long", exchanged)
-    said = forked(["box", "disks", "--into", "box"], str(tmp_path), naplps)
-    path = tmp_path / "disks" / "top" / "disk.img"
-    assert (said.status, said.err.decode()) == (1, f"naplps-pages: {path}: Not a directory\n")
-    assert not (tmp_path / "box" / "carved").exists() or not os.listdir(str(tmp_path / "box" / "carved"))
+    said = forked(["box", "disks", "-o", "box"], str(tmp_path), naplps)
+    assert (said.status, said.err.decode()) == (3, f"naplps-pages: {top}/disk.img: Not a directory\n")
+    assert not files_in(tmp_path / "box" / "carved")
 
 
-def made_in(run, folder, *words, place="box"):
+def made_in(run, folder, *words):
     """The names of the files of a box of a folder's disks, after a run that goes well."""
-    into = os.path.join(os.fspath(folder), place)
-    ran = run(["box", os.path.join(str(folder), "disks"), "--into", into, *words])
+    ran = run(box_words(folder, *words))
     assert (ran.returncode, ran.stderr) == (0, b""), ran
-    return {os.fsdecode(name) for name in files_in(into)} - FILES
+    return {os.fsdecode(name) for name in files_in(folder / "box")} - FILES
 
 
-def test_what_was_refused_first_is_made_once_it_is_asked_for(run, tmp_path):
+def test_what_a_new_box_leaves_out(run, tmp_path):
+    """What was carved is no part of its store, and is made once that isn't left out."""
     tree(tmp_path / "disks", {"sick.nap": POINT + b"\x1a", "disk.img": image_with_logo()})
-    at = "carved/disk.img-0000000790.nap"
-    assert made_in(run, tmp_path, "--no-carve", "--no-cures", "--no-words") == set()
-    assert made_in(run, tmp_path, "--no-carve") == set()
-    assert made_in(run, tmp_path) == {at, at + ".json"}
-    some = {at, at + ".json", "readable/sick.nap", "readable/sick.nap.json"}
-    assert made_in(run, tmp_path, "--cures", "--words") == some
-    assert made_in(run, tmp_path) == some
-    assert b"hello" not in files_in(tmp_path / "box")[b"files.csv"]
+    carved = {"carved/disk.img-0000000790.nap", "carved/disk.img-0000000790.nap.json"}
+    assert made_in(run, tmp_path, "--skip", "carve", "--skip", "repair", "--skip", "words") == set()
+    assert made_in(run, tmp_path, "--skip", "carve") == set()
+    assert made_in(run, tmp_path) == made_in(run, tmp_path) == carved
+    assert b"has no texts" in run(["find", "hello", str(tmp_path / "box")]).stderr
 
 
-@pytest.mark.parametrize("name", ["box.db", "pages.db", "cut.csv", "index.html", "readable", "carved"])
+# Commands that take a store, with a word for the store and, where they make files, one for where these go.
+OF_STORES = (["files", "S"], ["files", "S", "--csv"], ["files", "S", "--census"], ["find", "zurich", "S"],
+             ["equal", "S", "--verify"], ["equal", "S", "--nearly"], ["show", "S", "-o", "OUT/shown"],
+             ["show", "S", "-o", "OUT/sheet.svg"], ["fix", "S", "-o", "OUT/fixed"], ["canon", "S", "-o", "OUT/canon"],
+             ["report", "S", "-o", "OUT/report.html"], ["scan", "--merge", "S", "-o", "OUT/merged.db"])
+
+
+@pytest.mark.parametrize("words", OF_STORES, ids=lambda words: " ".join(words))
+def test_the_folder_of_a_box_is_its_store(run, box_of_few, tmp_path, words):
+    said, made = [], []
+    for store in (box_of_few, os.path.join(box_of_few, "box.db")):
+        out = tmp_path / "out"
+        out.mkdir()
+        ran = run([{"S": store}.get(word, word).replace("OUT", str(out)) for word in words])
+        said.append((ran.returncode, ran.stdout, ran.stderr))
+        made.append(files_in(out))
+        shutil.rmtree(out)
+    assert said[0] == said[1] and said[0][0] in (0, 1)
+    assert made[0].keys() == made[1].keys() and bool(made[0]) == ("-o" in words)
+    assert {name for name in made[0] if made[0][name] != made[1][name]} <= {b"merged.db"}
+
+
+@pytest.fixture(scope="module")
+def box_of_few(naplps, tmp_path_factory):
+    """A box of an accepted page with words, of one that is repaired, and of two that draw the same."""
+    top = tmp_path_factory.mktemp("few")
+    tree(top / "disks", {"ferry.nap": stored("ferry.nap"), "sick.nap": POINT + b"\x1a", "a": POINT, "b": SPELLED})
+    subprocess.run([COMMAND, *box_words(top)], check=True, capture_output=True, env=dict(os.environ, NAPLPS=naplps))
+    return str(top / "box")
+
+
+@pytest.mark.parametrize("name", ["box.db", "kept.db", "cut.csv", "index.html", "readable", "carved"])
 def test_what_was_taken_away_is_made_again(run, tmp_path, name):
     tree(tmp_path / "disks", {"a.nap": SPELLED, "sick.nap": POINT + b"\x1a", "disk.img": image_with_logo()})
     made_in(run, tmp_path)
@@ -482,11 +479,11 @@ def test_what_was_taken_away_is_made_again(run, tmp_path, name):
 def test_a_foreign_file_in_place_of_what_is_kept_is_told(run, tmp_path, data):
     tree(tmp_path / "disks", {"sick.nap": POINT + b"\x1a"})
     made_in(run, tmp_path)
-    kept = tmp_path / "box" / "pages.db"
+    kept = tmp_path / "box" / "kept.db"
     kept.write_bytes(data)
-    ran = run(["box", str(tmp_path / "disks"), "--into", str(tmp_path / "box")])
+    ran = run(box_words(tmp_path))
     if data:
-        assert ran.returncode == 3 and b"pages.db: isn't what a box keeps of its pages" in ran.stderr
+        assert ran.returncode == 3 and b"kept.db: isn't what a box keeps of its pages" in ran.stderr
         assert kept.read_bytes() == data
         kept.unlink()
     made_in(run, tmp_path)
@@ -494,6 +491,6 @@ def test_a_foreign_file_in_place_of_what_is_kept_is_told(run, tmp_path, data):
 
 
 def test_a_place_of_any_name(run, tmp_path):
-    tree(tmp_path / "disks", {"sick.nap": POINT + b"\x1a"})
-    for place in (os.fsdecode(b"bo\xeete"), "a?b#c%d e"):
-        assert "readable/sick.nap" in made_in(run, tmp_path, place=place)
+    for name in (os.fsdecode(b"bo\xeete"), "a?b#c%d e"):
+        tree(tmp_path / name / "disks", {"sick.nap": POINT + b"\x1a"})
+        assert "readable/sick.nap" in made_in(run, tmp_path / name)

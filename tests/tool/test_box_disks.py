@@ -1,15 +1,13 @@
 """Pages on floppies, and inside files of other kinds: a box carves what it doesn't unpack, and takes no disk for a
 capture.
 """
-import csv
 import hashlib
-import io
 import json
-import os
 
 import pytest
 
 import gallery
+from box_runs import box_words, note_of, table
 from command import file
 from floppies import FORMATS, SECTOR, boot_sector, floppy
 from naplps_pages.box.kept_pages import KeptPage, KeptPages
@@ -32,16 +30,11 @@ def box(run, tmp_path):
     table of pages that were cut out."""
     def fill(files, *words):
         tree(tmp_path / "disks", files)
-        ran = run(["box", str(tmp_path / "disks"), "--into", str(tmp_path / "box"), *words])
+        ran = run(box_words(tmp_path, *words))
         assert (ran.returncode, ran.stderr) == (0, b""), ran
         lines = dict(line.split(":", 1) for line in ran.stdout.decode().splitlines())
-        return {name: rest.strip() for name, rest in lines.items()}, table_of(tmp_path)
+        return {name: rest.strip() for name, rest in lines.items()}, table(tmp_path / "box", "cut.csv")
     return fill
-
-
-def table_of(tmp_path):
-    """The rows of the table of pages that were cut out of files."""
-    return list(csv.DictReader(io.StringIO((tmp_path / "box" / "cut.csv").read_text("utf-8"))))
 
 
 def assert_carved(tmp_path, rows, source, data, pages):
@@ -51,7 +44,7 @@ def assert_carved(tmp_path, rows, source, data, pages):
         ("carve", data.index(page), len(page)) for page in pages]
     for row, page in zip(some, pages):
         assert (tmp_path / "box" / row["path"]).read_bytes() == page
-        note = json.loads((tmp_path / "box" / (row["path"] + ".json")).read_bytes())
+        note = note_of(tmp_path / "box", row["path"])
         assert note["source"] == {"bytes": len(data), "sha256": hashlib.sha256(data).hexdigest()}
 
 
@@ -65,7 +58,7 @@ def test_pages_on_a_floppy_are_carved(run, box, tmp_path, name, fill):
     assert lines["captures"] == "0 files, cut into 0 parts, in captures"
     assert lines["other kinds"] == "1: 1 disk of DOS" and lines["not known"] == "0 files"
     assert box({}) == (lines, rows)
-    said = run(["carve", str(tmp_path / "disks" / "floppy.img")])
+    said = run(["fix", "--only", "carve", str(tmp_path / "disks" / "floppy.img")])
     assert said.returncode == 0 and said.stdout.count(b"accepted") == 2
 
 
@@ -81,7 +74,8 @@ def test_a_fresh_floppy_is_no_capture_and_has_no_page(run, box, tmp_path, name, 
     assert said.stdout == b"refused 1 EighthBit at 0 (looks like disk of DOS)\n"
     row = json.loads(run(["check", path, "--json"]).stdout)
     assert (row["kind"], row["looks_like"], row["pages"]) == (None, "disk of DOS", None)
-    assert b"capture" not in run(["cures", path]).stdout
+    said = run(["fix", path])
+    assert b"capture" not in said.stdout and (said.returncode, said.stderr) == (1, b"")
 
 
 @pytest.mark.parametrize("kind", KINDS)
@@ -124,7 +118,7 @@ def test_other_kinds_are_as_many_as_are_named(box):
 
 def test_pages_on_disks_that_were_not_carved_are_carved_once_that_is_asked_for(box, tmp_path):
     some = {"floppy.img": floppy(FILES), "old.dat": KINDS["ARC"] + bytes(500) + logo() + b"\xff"}
-    lines, rows = box(some, "--no-carve")
+    lines, rows = box(some, "--skip", "carve")
     assert rows == [] and lines["carved"].startswith("0 pages")
     _, rows = box({})
     assert_carved(tmp_path, rows, "floppy.img", some["floppy.img"], [FERRY, WEATHER])
@@ -135,13 +129,12 @@ def test_pages_on_disks_that_were_not_carved_are_carved_once_that_is_asked_for(b
 def test_a_long_disk_that_an_earlier_version_passed_over_is_carved(run, tmp_path):
     disk = boot_sector(FORMATS["720K"]) + bytes(17 << 20) + FERRY + b"\xf6" * 512
     tree(tmp_path / "disks", {"hard.img": disk})
-    words = ["box", str(tmp_path / "disks"), "--into", str(tmp_path / "box")]
-    ran = run(words)
+    ran = run(box_words(tmp_path))
     assert b"carved:          1 page out of 1 file, in carved\n" in ran.stdout
-    pages = KeptPages(os.path.join(str(tmp_path), "box", "pages.db"))
+    pages = KeptPages(str(tmp_path / "box" / "kept.db"))
     (key,), = pages.connection.execute("SELECT own FROM pages")
     pages.put([(key, KeptPage(carved=[], cut=b"").values)])
     pages.close()
-    again = run(words)
+    again = run(box_words(tmp_path))
     assert (again.stdout, again.returncode) == (ran.stdout, ran.returncode)
-    assert_carved(tmp_path, table_of(tmp_path), "hard.img", disk, [FERRY])
+    assert_carved(tmp_path, table(tmp_path / "box", "cut.csv"), "hard.img", disk, [FERRY])

@@ -6,11 +6,16 @@ import os
 import shutil
 import sqlite3
 import stat
+import subprocess
+import sys
 import zlib
+from contextlib import closing
 from itertools import zip_longest
+from pathlib import Path
 
 import pytest
 
+from box_runs import FOLDERS, box_words
 from command import COMMAND, NOBODY, file, open_to_all
 from folders import files_in
 from journals import names_further
@@ -25,16 +30,14 @@ from spelled import image_with_logo
 
 NSR = b"\x1f@@"
 FILES = {"a.nap": SPELLED, "sick.nap": POINT + b"\x1a", "two": POINT + NSR + SPELLED, "disk.img": image_with_logo()}
-FOLDERS = ("canonical", "readable", "captures", "carved")
 
 
 @pytest.fixture
 def box(run, tmp_path):
     """The words that make a box again, which was made once."""
     tree(tmp_path / "disks", FILES)
-    words = ["box", str(tmp_path / "disks"), "--into", str(tmp_path / "box")]
-    assert run(words).stderr == b""
-    return words
+    assert run(box_words(tmp_path)).stderr == b""
+    return box_words(tmp_path)
 
 
 def output_of(place):
@@ -44,33 +47,32 @@ def output_of(place):
 
 def test_a_journal_that_names_another_file_deletes_nothing(run, box, tmp_path):
     place, precious = tmp_path / "box", file(tmp_path, "precious", b"mine")
-    journal = names_further(place / "pages.db", precious)
-    file(place, "pages.db-journal", journal)
+    journal = names_further(place / "kept.db", precious)
+    file(place, "kept.db-journal", journal)
     before = files_in(place)
     ran = run(box)
     assert ran.returncode == 3 and ran.stderr.decode() == (
-        f"naplps-pages: {place}/pages.db: its journal, -journal, isn't that of a store: it names another file\n")
+        f"naplps-pages: {place}/kept.db: its journal, -journal, isn't that of a store: it names another file\n")
     with pytest.raises(StoreFailed, match="names another file"):  # (as what draws a report opens it)
-        KeptPages(str(place / "pages.db"))
+        KeptPages(str(place / "kept.db"))
     assert files_in(place) == before and os.path.exists(precious)
-    os.unlink(place / "pages.db-journal")
-    os.unlink(place / "pages.db")
-    file(place, "pages.db-journal", journal)
+    os.unlink(place / "kept.db-journal")
+    os.unlink(place / "kept.db")
+    file(place, "kept.db-journal", journal)
     assert run(box).returncode == 3 and os.path.exists(precious)
 
 
 @pytest.mark.parametrize("ending", ["-wal", "-journal", "-shm"])
 @pytest.mark.parametrize("kind", ["a second name", "a link", "a pipe"])
 def test_what_stands_beside_pages_and_is_another_file_stays(run, box, tmp_path, ending, kind):
-    mine, there = file(tmp_path, "mine", b"my own words"), str(tmp_path / "box" / "pages.db") + ending
+    mine, there = file(tmp_path, "mine", b"my own words"), str(tmp_path / "box" / "kept.db") + ending
     {"a second name": lambda: os.link(mine, there), "a link": lambda: os.symlink(mine, there),
      "a pipe": lambda: os.mkfifo(there)}[kind]()
     tree(tmp_path / "disks", {"b.nap": POINT})
     ran = run(box)
     assert ran.returncode == 3 and ran.stderr.decode() == (
-        f"naplps-pages: {tmp_path}/box/pages.db: what stands beside it, as {ending}, is no file of its own\n")
-    with open(mine, "rb") as words:
-        assert words.read() == b"my own words"
+        f"naplps-pages: {tmp_path}/box/kept.db: what stands beside it, as {ending}, is no file of its own\n")
+    assert Path(mine).read_bytes() == b"my own words"
 
 
 @pytest.mark.parametrize("is_made", [True, False])
@@ -78,29 +80,27 @@ def test_what_stands_beside_pages_and_is_another_file_stays(run, box, tmp_path, 
 def test_what_has_the_name_of_a_file_of_claims_is_left_alone(run, tmp_path, kind, is_made):
     """Earlier versions opened what had this name."""
     tree(tmp_path / "disks", FILES)
-    words = ["box", str(tmp_path / "disks"), "--into", str(tmp_path / "box")]
-    place, other = tmp_path / "box", str(tmp_path / "other")
+    place, other = tmp_path / "box", tmp_path / "other"
     if is_made:
-        assert run(words).returncode == 0
+        assert run(box_words(tmp_path)).returncode == 0
     else:
         place.mkdir()
     if kind == "another database":
-        with sqlite3.connect(other) as connection:
+        with closing(sqlite3.connect(other)) as connection:
             connection.execute("CREATE TABLE bookmarks(a)")
-        connection.close()
     elif kind in ("an empty file", "a text"):
-        file(tmp_path, "other", b"words\n" * (kind == "a text"))
+        other.write_bytes(b"words\n" * (kind == "a text"))
     elif kind == "a folder":
-        os.mkdir(other)
-    before = [os.path.lexists(other) and os.lstat(other)[:9]]
-    os.symlink(other, place / ".naplps-claiming")
-    run(words)
-    assert [os.path.lexists(other) and os.lstat(other)[:9]] == before
+        other.mkdir()
+    before = other.exists() and other.lstat()[:9]
+    (place / ".naplps-claiming").symlink_to(other)
+    run(box_words(tmp_path))
+    assert (other.exists() and other.lstat()[:9]) == before
 
 
 def test_a_box_keeps_what_it_has_of_pages_private(run, box, tmp_path):
-    modes = {name: stat.S_IMODE(os.stat(tmp_path / "box" / name).st_mode) for name in ("box.db", "pages.db")}
-    assert modes == {"box.db": 0o600, "pages.db": 0o600}
+    modes = {name: stat.S_IMODE(os.stat(tmp_path / "box" / name).st_mode) for name in ("box.db", "kept.db")}
+    assert modes == {"box.db": 0o600, "kept.db": 0o600}
 
 
 def packed(data):
@@ -129,11 +129,10 @@ WHERE = ("canon IS NOT NULL", "cure IS NOT NULL", "parts IS NOT NULL", "carved <
 
 def forge(place, forged):
     """Puts forged values into what is kept, and takes what was made of them away, with the report."""
-    with sqlite3.connect(place / "pages.db") as connection:
+    with closing(sqlite3.connect(place / "kept.db")) as connection, connection:
         for change, where in zip(forged, WHERE):
             if change:
                 assert connection.execute(f"UPDATE pages SET {change[0]} WHERE {where}", change[1:]).rowcount == 1
-    connection.close()
     for folder in FOLDERS:
         shutil.rmtree(place / folder)
     os.unlink(place / "index.html")
@@ -158,11 +157,10 @@ def test_what_is_forged_of_files_that_changed_is_told_and_not_made(run, box, tmp
         marks = path.stat()
         path.write_bytes(path.read_bytes()[::-1])
         os.utime(path, ns=(marks.st_atime_ns, marks.st_mtime_ns))
-    with sqlite3.connect(place / "box.db") as connection:
+    with closing(sqlite3.connect(place / "box.db")) as connection, connection:
         for name in FILES:
             marks = (tmp_path / "disks" / name).stat()
             connection.execute("UPDATE files SET ctime_ns = ? WHERE name = ?", (marks.st_ctime_ns, name.encode()))
-    connection.close()
     ran = run(box)
     made = [name for name in output_of(place) if name.split(b"/")[0].decode() in FOLDERS]
     assert ran.returncode == 1 and made == []
@@ -173,9 +171,8 @@ def test_what_is_forged_of_files_that_changed_is_told_and_not_made(run, box, tmp
 @pytest.mark.parametrize("kind", ["zeros", "a link", "a link of its length", "a folder", "a pipe"])
 def test_a_wrong_canonical_page_is_told_and_the_rest_is_made(run, box, tmp_path, kind):
     place = tmp_path / "box"
-    name, = (name for name in output_of(place) if name.startswith(b"canonical/"))
-    path = os.fsdecode(os.path.join(os.fsencode(place), name))
-    data = output_of(place)[name]
+    path, = map(str, (place / "canonical").rglob("*.nap"))
+    data = Path(path).read_bytes()
     os.unlink(path)
     other = file(tmp_path, "other", b"mine")
     length = len(data) - len(other)
@@ -186,20 +183,19 @@ def test_a_wrong_canonical_page_is_told_and_the_rest_is_made(run, box, tmp_path,
     tree(tmp_path / "disks", {"b": SPELLED + b"\x1a\x1a"})
     ran = run(box)
     why = "isn't as the box made it" if kind == "zeros" else "is there already, and is no file\n"
-    assert ran.returncode == 1 and ran.stderr.decode().startswith(f"naplps-pages: {path}: {why}")
+    assert ran.returncode == 3 and ran.stderr.decode().startswith(f"naplps-pages: {path}: {why}")
     assert ran.stderr.count(b"\n") == 1 and (place / "readable" / "b").read_bytes() == SPELLED
     assert len(ran.stdout.splitlines()) == 10 and b"/disks/b," in (place / "files.csv").read_bytes()
 
 
 def test_a_report_that_somebody_changed_stays(run, box, tmp_path):
     place, report = tmp_path / "box", tmp_path / "box" / "index.html"
-    with open(report, "ab") as page:
-        page.write(b"<p>My own words")
-    words = report.read_bytes()
+    words = report.read_bytes() + b"<p>My own words"
+    report.write_bytes(words)
     for number in range(2):
         tree(tmp_path / "disks", {f"{number}.nap": POINT + SPELLED * number})
         ran = run(box)
-        assert ran.returncode == 1 and ran.stderr.decode() == (
+        assert ran.returncode == 3 and ran.stderr.decode() == (
             f"naplps-pages: {report}: isn't as the box made it, and isn't written over: move it away, and the same "
             "command makes it anew\n")
         assert report.read_bytes() == words and len(ran.stdout.splitlines()) == 10
@@ -216,8 +212,7 @@ class _Ended(Exception):
 
 
 @pytest.mark.parametrize("moment", ["_note", "_forget"])
-def test_a_run_that_ends_as_it_puts_a_report_is_no_change_of_somebody(
-        naplps, run, box, tmp_path, monkeypatch, moment):
+def test_a_run_that_ends_as_it_puts_a_report_is_no_change_of_somebody(naplps, run, box, tmp_path, monkeypatch, moment):
     report = str(tmp_path / "box" / "index.html")
     is_moving = []
 
@@ -234,36 +229,26 @@ def test_a_run_that_ends_as_it_puts_a_report_is_no_change_of_somebody(
     moved, whole = making.PutFiles.move, getattr(making.PutFiles, moment)
     monkeypatch.setattr(making.PutFiles, "move", move)
     monkeypatch.setattr(making.PutFiles, moment, ends)
-    assert main(box, COMMAND) == 3
+    assert main(box, COMMAND) == 70
     monkeypatch.undo()
     ran = run(box)
     assert (ran.returncode, ran.stderr) == (0, b"") and os.path.exists(report)
     assert not [name for name in os.listdir(tmp_path / "box") if name.startswith(".naplps-")]
 
 
-def exchange(folder, victim):
-    """The same by this process."""
-    if os.geteuid() == 0:
-        os.setgroups([])
-        os.setgid(NOBODY)
-        os.setuid(NOBODY)
-    for name in os.listdir(folder):
-        if name.startswith(".naplps-"):
-            os.rename(os.path.join(folder, name), os.path.join(folder, "taken"))
-            os.symlink(victim, os.path.join(folder, name))
+# Puts a link to a file in place of each that isn't whole yet.
+EXCHANGE = """
+import pathlib, sys
+for path in pathlib.Path(sys.argv[1]).glob(".naplps-*"):
+    path.rename(path.with_name("taken"))
+    path.symlink_to(sys.argv[2])
+"""
 
 
 def exchanged(folder, victim):
-    """Puts a link to a file in place of each that isn't whole yet, as another user where that can be."""
-    pid = os.fork()
-    if not pid:
-        status = 1
-        try:
-            exchange(folder, victim)
-            status = 0
-        finally:
-            os._exit(status)
-    assert os.waitstatus_to_exitcode(os.waitpid(pid, 0)[1]) == 0
+    """Does so, as another user where that can be."""
+    other = {"user": NOBODY, "group": NOBODY, "extra_groups": []} if os.geteuid() == 0 else {}
+    subprocess.run([sys.executable, "-c", EXCHANGE, folder, victim], check=True, **other)
 
 
 @pytest.mark.parametrize("put", [new_files.put_inside, new_files.replace])
@@ -277,16 +262,14 @@ def test_a_file_that_is_written_gives_no_other_file_its_mode(tmp_path, monkeypat
     put(str(shared / "page.svg"), b"<svg/>")
     modes = [stat.S_IMODE(os.stat(path).st_mode) for path in (key, shared / "taken")]
     assert modes == [0o600, 0o666 & ~new_files._mask()]
-    with open(key, "rb") as words:
-        assert words.read() == b"secret"
+    assert Path(key).read_bytes() == b"secret"
 
 
 def test_names_of_a_forged_store_end_no_box(run, box, tmp_path):
     place = tmp_path / "box"
-    with sqlite3.connect(place / "box.db") as connection:
+    with closing(sqlite3.connect(place / "box.db")) as connection, connection:
         connection.execute("INSERT INTO files SELECT folder, x'6100', state, why, size, mtime_ns, ctime_ns, inode, "
                            "page, run FROM files WHERE name = CAST('sick.nap' AS BLOB)")
-    connection.close()
     ran = run(box)
     assert b"the tool itself failed" not in ran.stderr and len(ran.stdout.splitlines()) in (0, 10), ran
     assert json.loads((place / "readable" / "sick.nap.json").read_bytes())["entries"] == 1

@@ -1,14 +1,15 @@
 """Names of what a box makes: no path is given twice, none ends the box, and note and table say which one a file has."""
-import csv
 import hashlib
 import json
 import os
 import re
 import shutil
+from pathlib import Path
 from random import Random
 
 import pytest
 
+from box_runs import box_words, note_of, table
 from command import NOBODY, file
 from folders import files_in
 from naplps_pages.free_names import FreeNames, folds_case
@@ -24,27 +25,18 @@ ENDS = re.compile(rb",\n\n}")
 ROOT_ALONE = pytest.mark.skipif(os.geteuid() != 0, reason="only root can be another user")
 
 
-def boxed(run, folder, *roots, status=0):
+def boxed(run, folder, *roots):
     """A box of folders, and what was told on standard error; the same again, where it is made again."""
-    place = os.path.join(str(folder), "box")
-    ran = run(["box", *(roots or [os.path.join(str(folder), "disks")]), "--into", place])
-    assert ran.returncode == status, ran
+    place = str(folder / "box")
+    words = ["box", *roots, "-o", place] if roots else box_words(folder)
+    ran = run(words)
+    assert ran.returncode == 0, ran
     before = files_in(place)
-    again = run(["box", *(roots or [os.path.join(str(folder), "disks")]), "--into", place])
-    assert (again.returncode, again.stdout, again.stderr) == (status, ran.stdout, ran.stderr)
+    again = run(words)
+    assert (again.returncode, again.stdout, again.stderr) == (0, ran.stdout, ran.stderr)
     after = files_in(place)
-    assert {name for name in before if before[name] != after[name]} <= {b"box.db", b"pages.db"}
+    assert {name for name in before if before[name] != after[name]} <= {b"box.db", b"kept.db"}
     return place, ran.stderr.decode()
-
-
-def table(place, name):
-    with open(os.path.join(place, name), newline="", encoding="utf-8") as rows:
-        return list(csv.DictReader(rows))
-
-
-def note_of(place, path):
-    with open(os.path.join(place, path + ".json"), encoding="ascii") as note:
-        return json.load(note)
 
 
 def require_all(place, sources):
@@ -150,8 +142,7 @@ def test_a_name_that_is_too_long_is_shortened(run, tmp_path, kind):
     wanted = {"readable": [POINT, POINT, SPELLED], "captures": [POINT, SPELLED], "carved": [logo()]}
     for folder, pages in wanted.items():
         made = files_in(os.path.join(place, folder))
-        notes = {path: json.loads(ENDS.sub(b"\n}", made[path + b".json"]))
-                 for path in made if path + b".json" in made}
+        notes = {path: json.loads(ENDS.sub(b"\n}", made[path + b".json"])) for path in made if path + b".json" in made}
         assert sorted(made[path] for path in notes) == sorted(pages) and len(made) == 2 * len(pages)
         for path, note in notes.items():
             source = bytes.fromhex(note["source_name_hex"]) if "source_name_hex" in note else os.fsencode(
@@ -176,11 +167,10 @@ def test_a_path_that_is_too_long_is_shortened(run, tmp_path):
 def test_what_is_no_file_in_place_of_one_gets_its_name_alone(run, tmp_path, kind):
     tree(tmp_path / "disks", {"a": SICK, "b/c": OTHER})
     victim = file(tmp_path, "victim", b"mine")
-    words = ["box", str(tmp_path / "disks"), "--into", str(tmp_path / "box")]
+    words, place = box_words(tmp_path), str(tmp_path / "box")
     assert run(words).stderr == b""
-    place = str(tmp_path / "box")
-    shutil.rmtree(os.path.join(place, "readable"))
-    os.mkdir(os.path.join(place, "readable"))
+    shutil.rmtree(tmp_path / "box" / "readable")
+    (tmp_path / "box" / "readable").mkdir()
     for name in ("a", "b"):
         path = os.path.join(place, "readable", name)
         {"a link": lambda: os.symlink(victim, path), "a link to nothing": lambda: os.symlink(victim + "2", path),
@@ -193,8 +183,7 @@ def test_what_is_no_file_in_place_of_one_gets_its_name_alone(run, tmp_path, kind
     if kind != "a folder":
         wanted += taken(place, "readable/b", "readable/b (2)")
     assert ran.stderr.decode() == wanted
-    with open(victim, "rb") as there:
-        assert there.read() == b"mine"
+    assert Path(victim).read_bytes() == b"mine"
 
 
 @ROOT_ALONE
@@ -202,7 +191,7 @@ def test_a_folder_that_may_not_be_written_loses_its_own_files_alone(run_as_nobod
     tree(tmp_path / "work" / "disks", {"a": SICK, "b/c": OTHER})
     for path in (tmp_path / "work", *(tmp_path / "work").rglob("*")):
         os.chown(path, NOBODY, NOBODY)
-    words = ("box", "disks", "--into", "box")
+    words = ("box", "disks", "-o", "box")
     assert run_as_nobody(*words, cwd=str(tmp_path / "work")).returncode == 0
     shut = tmp_path / "work" / "box" / "readable" / "b"
     for name in ("c", "c.json"):
@@ -210,7 +199,7 @@ def test_a_folder_that_may_not_be_written_loses_its_own_files_alone(run_as_nobod
     os.chown(shut, 0, 0)
     tree(tmp_path / "work" / "disks", {"d": SICK})
     ran = run_as_nobody(*words, cwd=str(tmp_path / "work"))
-    assert ran.returncode == 1 and ran.stderr.decode() == "".join(
+    assert ran.returncode == 3 and ran.stderr.decode() == "".join(
         f"naplps-pages: box/readable/b/{name}: Permission denied\n" for name in ("c.json", "c"))
     assert (tmp_path / "work" / "box" / "readable" / "d").read_bytes() == POINT
     assert len(table(str(tmp_path / "work" / "box"), "files.csv")) == 3 and len(ran.stdout.splitlines()) == 10
@@ -221,22 +210,22 @@ def test_the_commands_on_a_store_give_no_path_twice(run, tmp_path):
                               "two.nap": SPELLED + NSR + POINT})
     pack(tmp_path / "disks" / "x.tar", {"m": OTHER})
     store, to = str(tmp_path / "s.db"), str(tmp_path / "to")
-    assert run(["scan", str(tmp_path / "disks"), "--into", store, "--cures"]).returncode == 0
-    for command, wanted in (
-            ("cures", {b"a": POINT, b"a (2).json": SPELLED, b"x.tar!m": SPELLED, b"x.tar!m (2)": POINT}),
+    assert run(["scan", str(tmp_path / "disks"), "-o", store], keeps="repair").returncode == 0
+    for way, wanted in (
+            ("repair", {b"a": POINT, b"a (2).json": SPELLED, b"x.tar!m": SPELLED, b"x.tar!m (2)": POINT}),
             ("split", {b"two-001.nap": POINT, b"two-002.nap": SPELLED, b"two (2)-001.nap": SPELLED,
                        b"two (2)-002.nap": POINT})):
-        said = run([command, store, "--into", to + command])
+        said = run(["fix", store, "--only", way, "-o", to + way])
         assert said.returncode < 3 and said.stderr.count(b": this name is taken: ") == len(wanted) // 2 - (
-            command == "split"), said
-        made = files_in(to + command)
+            way == "split"), said
+        made = files_in(to + way)
         pages = {name: data for name, data in made.items() if name + b".json" in made}
         assert {tuple(sorted(pages.values()))} == {tuple(sorted(wanted.values()))} and set(pages) == set(wanted)
         assert {json.loads(made[name + b".json"])["path"].encode() for name in wanted if b"(2)" in name} == {
             name for name in wanted if b"(2)" in name}
-    said = run(["look", store, "--into", to + "look"])
+    said = run(["show", store, "-o", to + "show"])
     assert said.returncode < 3 and {b"x.tar!m.svg", b"x.tar!m (2).svg", b"a.svg", b"a.json.svg"} < set(
-        files_in(to + "look"))
+        files_in(to + "show"))
 
 
 NAMES = ("a", "A", "a.json", "a (2)", "a (2).json", "a.json.json", "b.", "b", "n" * 254, "n" * 255, "\u00e9" * 127)

@@ -20,7 +20,7 @@ from entries import legal_list
 from gallery import pages
 from naplps import canonical
 from naplps.entry import read_line
-from samples import has
+from samples import has, needs_node
 
 from dev.vectors.crate_rows import rows_of
 from dev.vectors.notation import bytes_of
@@ -30,8 +30,6 @@ FULL = os.environ.get("NAPLPS_CANONICAL_TRIAL") == "full"
 PAGES, STRINGS, CHUNK = (100_000, 1_000_000, 2_000) if FULL else (1_000, 10_000, 1_000)
 REFUSED = os.path.join(TOP, "vectors", "not-canonical.txt")
 DOCUMENT = os.path.join(TOP, "docs", "CANONICAL.md")
-needs_node = pytest.mark.skipif(not has("node"), reason="not tried: there is no node (Debian: apt-get install nodejs)")
-needs_cc = pytest.mark.skipif(not has("cc"), reason="not tried: there is no cc (Debian: apt-get install gcc)")
 
 
 @pytest.fixture(scope="module")
@@ -41,28 +39,19 @@ def words(tmp_path_factory):
 
 
 def agree(naplps, words, streams):
-    """The readers agree on each of these, and with the program where they take one; how many they took, how many of
-    these the program prints unchanged, and how many entries these have."""
+    """The readers agree on each of these, and with the program where they take one; how many they took, and how many
+    of these the program prints unchanged."""
     said, listed = [spoken(each) for each in streams], asked(naplps, streams)
     if has("node"):
         assert by_node(streams) == [each.line for each in said]
     for mine, (line, text) in zip(said, by_words(words, streams) if words else ()):
         wanted = words_of(mine.lines.decode("ascii").splitlines())
         assert (line, text) == ((f"accepted {len(wanted)}", wanted) if mine.accepted else (mine.line, b""))
-    taken = unchanged = entries = 0
     for stream, mine, program in zip(streams, said, listed):
-        if mine.accepted:
-            assert mine.lines == program.lines, stream.hex()
-        if stream == program.canonical:
-            assert mine.accepted, (stream.hex(), mine.line)
-            unchanged, entries = unchanged + 1, entries + int(mine.line.split(" ")[1])
-        taken += mine.accepted
-    return taken, unchanged, entries
-
-
-def in_chunks(streams):
-    for at in range(0, len(streams), CHUNK):
-        yield streams[at:at + CHUNK]
+        assert not mine.accepted or mine.lines == program.lines, stream.hex()
+        assert mine.accepted or stream != program.canonical, (stream.hex(), mine.line)
+    unchanged = sum(stream == program.canonical for stream, program in zip(streams, listed))
+    return sum(mine.accepted for mine in said), unchanged
 
 
 def test_vectors_and_rows_by_their_documented_lines(naplps, words):
@@ -70,31 +59,14 @@ def test_vectors_and_rows_by_their_documented_lines(naplps, words):
     assert len(found) > 2_500
     for stream, lines in found:
         assert [entry.line for entry in canonical.read(stream)] == lines
-    entries = 0
-    for chunk in in_chunks([stream for stream, _ in found]):
-        taken, unchanged, some = agree(naplps, words, chunk)
-        assert taken == len(chunk) >= unchanged
-        entries += some
-    print(f"{len(found)} canonical streams of vectors and rows, {entries} entries")
+    assert agree(naplps, words, [stream for stream, _ in found])[0] == len(found)
 
 
-def test_every_page_of_vectors_and_rows(naplps, words):
+def test_every_page_of_vectors_rows_and_the_gallery(naplps, words):
     streams = [vector.data for file in files() for vector in vectors_of(file)]
     streams += [row.stream for row in rows_of(Path(TOP, "crates", "nap_rows", "data"))]
-    found = entries = 0
-    for chunk in in_chunks(streams):
-        some = [each.canonical for each in asked(naplps, chunk) if each.canonical]
-        taken, unchanged, count = agree(naplps, words, some)
-        assert taken == unchanged == len(some)
-        found, entries = found + taken, entries + count
-    assert found > 2_700
-    print(f"{found} pages of vectors and rows, {entries} entries")
-
-
-def test_the_gallery(naplps, words):
-    streams = [answer.canonical for answer in asked(naplps, list(pages().values()))]
-    streams = [stream for stream in streams if stream]
-    assert agree(naplps, words, streams)[:2] == (len(streams), len(streams)) and len(streams) > 10
+    some = [each.canonical for each in asked(naplps, [*streams, *pages().values()]) if each.canonical]
+    assert agree(naplps, words, some) == (len(some), len(some)) and len(some) > 2_710
 
 
 def random_pages(naplps, seed, count):
@@ -104,13 +76,8 @@ def random_pages(naplps, seed, count):
 
 
 def test_pages_made_by_chance(naplps, words):
-    entries = 0
     for seed in range(PAGES // CHUNK):
-        streams = random_pages(naplps, seed, CHUNK)
-        taken, unchanged, some = agree(naplps, words, streams)
-        assert (taken, unchanged) == (CHUNK, CHUNK)
-        entries += some
-    print(f"{PAGES} pages made by chance, {entries} entries")
+        assert agree(naplps, words, random_pages(naplps, seed, CHUNK)) == (CHUNK, CHUNK)
 
 
 def changed(chance, streams):
@@ -139,27 +106,24 @@ def changed(chance, streams):
 
 def test_random_and_changed_bytes(naplps, words):
     streams = [stream for stream, _ in vectors() if len(stream) < 500] + random_pages(naplps, "changed", 1_000)
-    chance = random.Random(87)
-    totals = [0, 0, 0]
+    chance, taken, unchanged = random.Random(87), 0, 0
     for _ in range(STRINGS // CHUNK):
         found = agree(naplps, words, [changed(chance, streams) for _ in range(CHUNK)])
-        totals = [total + some for total, some in zip(totals, found)]
-    assert totals[0] > STRINGS // 100 and totals[1] > STRINGS // 200
-    print(f"{STRINGS} strings of bytes: {totals[0]} taken, {totals[1]} canonical with {totals[2]} entries")
+        taken, unchanged = taken + found[0], unchanged + found[1]
+    assert taken > STRINGS // 100 and unchanged > STRINGS // 200
+    print(f"{STRINGS} strings of bytes: {taken} taken, {unchanged} canonical")
 
 
 def refusals():
     """The vectors of refusals: name, stream, and what is said."""
-    with open(REFUSED, encoding="ascii") as file:
-        lines = file.read().splitlines()
+    lines = Path(REFUSED).read_text("ascii").splitlines()
     for title, row in zip(lines[1::2], lines[2::2]):
         stream, said = row.split(" | ")
         yield title[2:title.index(":")], bytes_of(stream), said
 
 
 def test_each_row_of_the_table_of_refusals_has_vectors_that_all_three_refuse(words):
-    with open(DOCUMENT, encoding="utf-8") as file:
-        table = file.read().split("## Refusals")[1].split("\n## ")[0]
+    table = Path(DOCUMENT).read_text("utf-8").split("## Refusals")[1].split("\n## ")[0]
     names = [line.split(" | ")[0][2:] for line in table.splitlines() if line.startswith("| ")][1:]
     found = list(refusals())
     assert sorted(names) == sorted({name for name, _, _ in found}) and len(names) == 13
@@ -172,16 +136,13 @@ def test_each_row_of_the_table_of_refusals_has_vectors_that_all_three_refuse(wor
         assert [line for line, _ in by_words(words, streams)] == wanted
 
 
-def test_entries_are_those_of_the_module():
+def test_entries_are_those_of_the_module_and_come_before_a_refusal():
     stream = bytes_of("0E 21 5F 0C 26 52 40*7 0F 41")
     found = list(canonical.read(bytearray(stream)))
     assert [each.entry for each in found] == [read_line(each.line) for each in found]
     assert [(each.kind, each.place, str(each)) for each in found] == [
         ("CLEAR", 3, "CLEAR pen=start"), ("POINT", 13, "POINT 4194304,4194304 pel=0,0 colour=own-start"),
         ("CHAR", 14, "CHAR primary 41 pen=4194304,4194304 colour=own-start text=0,0/normal/----")]
-
-
-def test_entries_before_a_refusal_are_given_first():
     found = canonical.read(bytes_of("0E 21 5F 07 0C 80"))
     assert [next(found).line, next(found).line] == ["BELL", "CLEAR pen=start"]
     with pytest.raises(canonical.NotCanonical) as refusal:
@@ -234,8 +195,7 @@ def test_the_file_alone_is_enough(tmp_path):
 
 @needs_node
 def test_the_module_is_script_text_too(tmp_path):
-    with open(os.path.join(TOP, "browser", "canonical.mjs"), encoding="utf-8") as file:
-        text = file.read()
+    text = Path(TOP, "browser", "canonical.mjs").read_text("utf-8")
     script, _, exported = text.rpartition("export { ")
     assert exported == "NotCanonical, lineOf, read };\n" and "import " not in script.replace("//     import ", "")
     script += "const [it] = read(Uint8Array.of(14, 33, 95, 7)); console.log(lineOf(it));"

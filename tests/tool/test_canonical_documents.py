@@ -24,10 +24,6 @@ def table(heading, number=0):
     return [[field.strip() for field in line.strip("|").split(" | ")] for line in found.splitlines()[2:]]
 
 
-def test_it_has_2000_words_at_most():
-    assert len(TEXT.split()) <= 2_000
-
-
 def test_the_page_byte_by_byte(naplps):
     stream, lines = b"", []
     for offset, data, _, line in table("A page, byte by byte"):
@@ -82,7 +78,8 @@ def test_opcodes_and_their_runs(naplps, opcode, run, kind):
         assert spoken(cut).line in ("refused BadOperands at 12", spoken(stream).line) or opcode == "20"
 
 
-def test_the_opcodes_are_nineteen():
+def test_it_has_2000_words_at_most_and_nineteen_opcodes():
+    assert len(TEXT.split()) <= 2_000
     named = [int(each, 16) for opcodes, _, _ in table("Opcodes") for each in re.findall(CODES, opcodes)]
     assert sorted(named) == sorted(canonical._RUNS) and len(named) == 19
 

@@ -10,18 +10,20 @@ import os
 import signal
 import subprocess
 import time
+from pathlib import Path
 from random import Random
 
 import pytest
 
 from command import COMMAND, NOBODY, file
+from folders import files_in
 from naplps.answers import Accepted
-from naplps.client import Client
-from naplps_pages.commands import carve
+from naplps_pages.fixing import carve
 from naplps_pages.console import NotWritten
 from naplps_pages.page_finder import MOST_GIVEN, SHAPES, PageFinder
 from packers import pack
 from planted import pool
+from scans import start, wait_until
 from spelled import logo
 
 MIB = int(os.environ.get("CARVED", "12"))
@@ -31,14 +33,6 @@ LEAST_SPEED = 5_000_000
 TEXT = b"The quick brown fox jumps over the lazy dog, 0123456789 times.\r\n"
 FILES = ("/usr/lib/*/*.so*", "/usr/bin/*", "/usr/share/doc/*/*", "/usr/share/fonts/*/*/*", "/usr/lib/python3*/*.py")
 LOGO = logo()
-
-
-@pytest.fixture(scope="module")
-def program(naplps):
-    """The program."""
-    client = Client(naplps)
-    yield client
-    client.close()
 
 
 @pytest.fixture(scope="module")
@@ -136,158 +130,139 @@ def test_pages_longer_than_a_block_and_over_its_edge(program):
 
 
 DISK = bytes(100_000) + LOGO + b"\xff" * 3000 + b"see: " + LOGO + b"\x1a" + bytes(50_000)
+LAST = DISK.rindex(LOGO)
+NAMES = [f"disk.img-{offset:010}.nap" for offset in (100_000, LAST)]
+STATE = ".disk.img.carve.json"
 
 
-def test_each_page_is_a_file_with_a_note(run, tmp_path):
-    path, to = file(tmp_path, "disk.img", DISK), os.path.join(str(tmp_path), "to")
-    said = run(["carve", path, "--into", to])
-    names = ["disk.img-0000100000.nap", "disk.img-%010d.nap" % DISK.rindex(LOGO)]
+@pytest.fixture
+def path(tmp_path):
+    """A disk with two pages."""
+    return file(tmp_path, "disk.img", DISK)
+
+
+def test_each_page_is_a_file_with_a_note(run, path, to):
+    said = run(["fix", "--only", "carve", path, "-o", to])
     assert (said.stderr, said.returncode) == (b"", 0)
-    assert sorted(os.listdir(to)) == sorted([*names, *(name + ".json" for name in names)])
+    assert sorted(os.listdir(to)) == sorted([*NAMES, *(name + ".json" for name in NAMES)])
     lines = said.stdout.decode().splitlines()
     assert lines[0] == "%s: %d bytes at 100000, at least %d, at most %d from 100000: accepted 36 entries" % (
-        os.path.join(to, names[0]), len(LOGO), LOGO.rindex(b"\x0f") + 1, len(LOGO))
+        os.path.join(to, NAMES[0]), len(LOGO), LOGO.rindex(b"\x0f") + 1, len(LOGO))
     assert lines[-1] == f"{path}: 2 pages found in {len(DISK)} bytes"
-    for name in names:
-        with open(os.path.join(to, name), "rb") as page, open(os.path.join(to, name + ".json"), "rb") as note:
-            data, row = page.read(), json.load(note)
+    for name in NAMES:
+        data, row = Path(to, name).read_bytes(), json.loads(Path(to, name + ".json").read_bytes())
         assert data == LOGO == DISK[row["offset"]:row["offset"] + row["bytes"]]
         assert row["source_name"] == path and row["answer"] == "accepted 36 entries" and row["least"] == 12
         assert row["source"] == {"bytes": len(DISK), "sha256": hashlib.sha256(DISK).hexdigest()}
         assert row["copy"] == {"bytes": len(data), "sha256": hashlib.sha256(data).hexdigest()}
     assert row["at_most"] == {"offset": row["offset"] - 5, "bytes": len(LOGO) + 5}
-    again = run(["carve", path, "--into", to])
+    again = run(["fix", "--only", "carve", path, "-o", to])
     assert (again.stdout, again.stderr, again.returncode) == (said.stdout, b"", 0)
-    assert run(["scan", to, "--into", to + ".db"]).stdout.startswith(b"2 files: 2 accepted (2 pages)")
+    assert run(["scan", to, "-o", to + ".db"]).stdout.startswith(b"2 files: 2 accepted (2 pages)")
 
 
-def test_without_a_folder_nothing_is_made_and_least_is_kept(run, tmp_path):
-    path = file(tmp_path, "disk.img", DISK)
-    said = run(["carve", path, "--json"])
-    rows = [json.loads(line) for line in said.stdout.splitlines()]
+def test_without_a_folder_nothing_is_made_and_least_is_kept(run, tmp_path, path):
+    rows = [json.loads(line) for line in run(["fix", "--only", "carve", path, "--json"]).stdout.splitlines()]
     assert [(row["name"], row["status"], row["offset"], row["bytes"]) for row in rows] == [
-        (path, "accepted", 100_000, len(LOGO)), (path, "accepted", DISK.rindex(LOGO), len(LOGO))]
-    said = run(["carve", path, "--least", "37"])
+        (path, "accepted", 100_000, len(LOGO)), (path, "accepted", LAST, len(LOGO))]
+    said = run(["fix", "--only", "carve", path, "--min-entries", "37"])
     assert said.stdout.decode() == f"{path}: 0 pages found in {len(DISK)} bytes\n" and said.returncode == 1
     assert os.listdir(str(tmp_path)) == ["disk.img"]
 
 
-def test_members_of_packs_and_standard_input(run, tmp_path):
+def test_members_of_packs_and_standard_input(run, tmp_path, to):
     pack(os.path.join(str(tmp_path), "old.tar"), {"disk.img": DISK})
-    said = run(["carve", os.path.join(str(tmp_path), "old.tar") + "!disk.img"])
+    said = run(["fix", "--only", "carve", os.path.join(str(tmp_path), "old.tar") + "!disk.img"])
     assert said.returncode == 0 and said.stdout.count(b"accepted 36 entries") == 2
-    said = run(["carve", "-", "--into", os.path.join(str(tmp_path), "to")], DISK)
-    assert said.returncode == 0 and os.path.exists(os.path.join(str(tmp_path), "to", "page-0000100000.nap"))
+    assert run(["fix", "--only", "carve", "-", "-o", to], DISK).returncode == 0
+    assert "page-0000100000.nap" in os.listdir(to)
 
 
-def test_a_foreign_file_stays_and_the_rest_is_found(run, tmp_path):
-    path, to = file(tmp_path, "disk.img", DISK), os.path.join(str(tmp_path), "to")
+def test_a_foreign_file_stays_and_the_rest_is_found(run, path, to):
     os.mkdir(to)
-    file(to, "disk.img-0000100000.nap", b"mine")
-    said = run(["carve", path, "--into", to])
+    file(to, NAMES[0], b"mine")
+    said = run(["fix", "--only", "carve", path, "-o", to])
     assert said.returncode == 3 and b"is there already with other bytes" in said.stderr
-    with open(os.path.join(to, "disk.img-0000100000.nap"), "rb") as there:
-        assert there.read() == b"mine"
-    assert len(os.listdir(to)) == 3
-    file(to, ".disk.img.carve.json", b"mine too")
-    said = run(["carve", path, "--into", to])
-    assert said.returncode == 3 and b".disk.img.carve.json: is there already, and isn't of this tool" in said.stderr
+    assert files_in(to)[NAMES[0].encode()] == b"mine" and len(os.listdir(to)) == 3
 
 
-@pytest.mark.parametrize("kind", ["a pipe", "a link", "a folder"])
-def test_what_is_no_file_where_a_search_keeps_how_far_it_is(run, tmp_path, kind):
-    path, to = file(tmp_path, "disk.img", DISK), os.path.join(str(tmp_path), "to")
-    state, other = os.path.join(to, ".disk.img.carve.json"), file(tmp_path, "other", b"mine")
+@pytest.mark.parametrize("kind", ["a file", "a pipe", "a link", "a folder"])
+def test_what_is_foreign_where_a_search_keeps_how_far_it_is(run, tmp_path, path, to, kind):
+    state, other = os.path.join(to, STATE), file(tmp_path, "other", b"mine")
     os.mkdir(to)
-    {"a pipe": os.mkfifo, "a link": lambda to: os.symlink(other, to), "a folder": os.mkdir}[kind](state)
-    said = run(["carve", path, "--into", to])
+    {"a file": lambda state: os.link(other, state), "a pipe": os.mkfifo,
+     "a link": lambda state: os.symlink(other, state), "a folder": os.mkdir}[kind](state)
+    said = run(["fix", "--only", "carve", path, "-o", to])
     assert said.returncode == 3 and b".disk.img.carve.json: is there already, and isn't of this tool" in said.stderr
-    assert os.listdir(to) == [".disk.img.carve.json"]
-    with open(other, "rb") as there:
-        assert there.read() == b"mine"
+    assert os.listdir(to) == [STATE] and Path(other).read_bytes() == b"mine"
 
 
-class _Full:
-    """A disk that has room for a number of files."""
-
-    def __init__(self, room):
-        self.room, self.put = room, carve.put_inside
-
-    def __call__(self, path, data):
-        self.room -= 1
-        if self.room < 0:
-            raise NotWritten(path, os.strerror(28))
-        self.put(path, data)
-
-
-def test_a_full_disk_loses_nothing(naplps, tmp_path, monkeypatch, capfd):
+def test_a_full_disk_loses_nothing(naplps, tmp_path, to, monkeypatch, capfd):
     from naplps_pages.cli import main
     monkeypatch.setenv("NAPLPS", naplps)
-    path, to = file(tmp_path, "disk.img", DISK * 3), os.path.join(str(tmp_path), "to")
-    full = _Full(5)
-    monkeypatch.setattr(carve, "put_inside", full)
-    assert main(["carve", path, "--into", to], COMMAND) == 3
+    path, put, written = file(tmp_path, "disk.img", DISK * 3), carve.put_inside, []
+
+    def put_on_full_disk(path, data):
+        if len(written) == 5:
+            raise NotWritten(path, os.strerror(28))
+        written.append(path)
+        put(path, data)
+    monkeypatch.setattr(carve, "put_inside", put_on_full_disk)
+    assert main(["fix", "--only", "carve", path, "-o", to], COMMAND) == 3
     assert b"No space left on device" in capfd.readouterr().err.encode()
-    full.room = 1000
-    assert main(["carve", path, "--into", to], COMMAND) == 0
+    monkeypatch.setattr(carve, "put_inside", put)
+    assert main(["fix", "--only", "carve", path, "-o", to], COMMAND) == 0
     made = sorted(name for name in os.listdir(to) if name.endswith(".nap"))
     assert len(made) == 6 and sorted(os.listdir(to)) == sorted(made + [name + ".json" for name in made])
     assert capfd.readouterr().out.endswith(f"disk.img: 6 pages found in {3 * len(DISK)} bytes\n")
 
 
-def test_a_search_that_is_stopped_goes_on(run, naplps, tmp_path):
-    path, to = os.path.join(str(tmp_path), "disk.img"), os.path.join(str(tmp_path), "to")
+def test_a_search_that_is_stopped_goes_on(run, naplps, path, to):
     with open(path, "wb") as disk:  # (sparse)
         for at in range(0, 400 << 20, 100 << 20):
             disk.seek(at)
             disk.write(LOGO + b"\xff")
         disk.truncate(400 << 20)
-    started = subprocess.Popen([COMMAND, "carve", path, "--into", to], env=dict(os.environ, NAPLPS=naplps),
-                               stdout=subprocess.PIPE, stderr=subprocess.PIPE)
-    wait = time.monotonic() + 120
-    while not (os.path.isdir(to) and any(name.endswith(".nap") for name in os.listdir(to))):
-        assert time.monotonic() < wait and started.poll() is None
-        time.sleep(0.02)
+    started = start(["fix", "--only", "carve", path, "-o", to], naplps)
+    wait_until(lambda: glob.glob(to + "/*.nap"), started)
     started.send_signal(signal.SIGINT)
     told = started.communicate(timeout=120)[1]
     assert started.returncode == -signal.SIGINT and b"stopped; what was found is kept, and the same command" in told
     with open(os.path.join(to, ".disk.img.carve.json"), encoding="ascii") as state:
         assert 0 < json.load(state)["at"] < 400 << 20
-    said = run(["carve", path, "--into", to])
+    said = run(["fix", "--only", "carve", path, "-o", to])
     assert said.stdout.endswith(f"{path}: 4 pages found in {400 << 20} bytes\n".encode()) and said.returncode == 0
     assert said.stdout.count(b"accepted") < 4 and len(os.listdir(to)) == 8
 
 
 def state_of(naplps, path, at, found):
     """A state of a search, as an earlier run leaves it, of a file that is there."""
-    with open(path, "rb") as source:
-        data = source.read()
+    data = Path(path).read_bytes()
     line = subprocess.run([naplps, "--version"], stdout=subprocess.PIPE, check=True, text=True).stdout.strip()
     terms = [hashlib.sha256(data).hexdigest(), len(data), 12, line]
     return json.dumps({"what": carve.WHAT, "at": at, "found": found, "terms": terms}).encode("ascii")
 
 
-LAST = DISK.rindex(LOGO)
+@pytest.fixture
+def earlier(naplps, path, to):
+    """Puts a state of a search of the disk, as an earlier run leaves it, in its place; its path."""
+    os.mkdir(to)
+    return lambda at: file(to, STATE, state_of(naplps, path, at, 7))
 
 
 @pytest.mark.parametrize("at", [len(DISK) + 1, 9_999_999, 10 ** 20, 10 ** 400, -1, True, 1.5, "7", None], ids=range(9))
-def test_a_search_does_not_continue_outside_of_its_file(run, naplps, tmp_path, at):
-    path, to = file(tmp_path, "disk.img", DISK), os.path.join(str(tmp_path), "to")
-    os.mkdir(to)
-    file(to, ".disk.img.carve.json", state_of(naplps, path, at, 7))
-    said = run(["carve", path, "--into", to])
+def test_a_search_does_not_continue_outside_of_its_file(run, path, to, earlier, at):
+    earlier(at)
+    said = run(["fix", "--only", "carve", path, "-o", to])
     assert (said.returncode, said.stderr) == (0, b"")
     assert said.stdout.endswith(f"{path}: 2 pages found in {len(DISK)} bytes\n".encode())
-    assert sorted(os.listdir(to)) == sorted(
-        f"disk.img-{offset:010}.nap{ending}" for offset in (100_000, LAST) for ending in ("", ".json"))
+    assert sorted(os.listdir(to)) == sorted(name + ending for name in NAMES for ending in ("", ".json"))
 
 
-def test_a_search_that_continues_says_so_and_counts_the_pages_that_are_there(run, naplps, tmp_path):
-    path, to = file(tmp_path, "disk.img", DISK), os.path.join(str(tmp_path), "to")
-    os.mkdir(to)
+def test_a_search_that_continues_says_so_and_counts_the_pages_that_are_there(run, path, to, earlier):
     for found in (0, 1):
-        file(to, ".disk.img.carve.json", state_of(naplps, path, 101_000, 7))
-        said = run(["carve", path, "--into", to])
+        earlier(101_000)
+        said = run(["fix", "--only", "carve", path, "-o", to])
         assert said.returncode == 0 and said.stderr.decode() == (
             f"naplps-pages: {path}: the search continues at byte 101000, where an earlier run stopped; pages found "
             f"before: {found}\n")
@@ -295,23 +270,21 @@ def test_a_search_that_continues_says_so_and_counts_the_pages_that_are_there(run
         assert said.stdout.endswith(f"{path}: {pages} found in {len(DISK)} bytes\n".encode())
         assert len(os.listdir(to)) == 2 * (found + 1)
         for ending in ("", ".json"):
-            file(to, "disk.img-0000100000.nap" + ending, LOGO)
+            file(to, NAMES[0] + ending, LOGO)
 
 
 @pytest.mark.skipif(os.geteuid() != 0, reason="only root can be another user")
-def test_a_search_of_another_user_is_not_continued(run, naplps, tmp_path):
-    path, to = file(tmp_path, "disk.img", DISK), os.path.join(str(tmp_path), "to")
-    os.mkdir(to)
-    state = file(to, ".disk.img.carve.json", state_of(naplps, path, 101_000, 7))
+def test_a_search_of_another_user_is_not_continued(run, path, to, earlier):
+    state = earlier(101_000)
     os.chown(state, NOBODY, NOBODY)
-    said = run(["carve", path, "--into", to])
+    said = run(["fix", "--only", "carve", path, "-o", to])
     assert (said.returncode, said.stdout) == (3, b"") and said.stderr.decode() == (
         f"naplps-pages: {state}: is another user's: move it away, and the search begins at the first byte\n")
-    assert os.listdir(to) == [".disk.img.carve.json"]
+    assert os.listdir(to) == [STATE]
 
 
-def test_a_search_of_a_file_with_a_long_name_can_be_continued(run, naplps, tmp_path):
-    path, to = file(tmp_path, "n" * 235, DISK), os.path.join(str(tmp_path), "to")
+def test_a_search_of_a_file_with_a_long_name_can_be_continued(run, naplps, tmp_path, to):
+    path = file(tmp_path, "n" * 235, DISK)
     full = carve.CarveState(os.path.join(to, carve.state_name("n" * 255)), "", [])
     os.mkdir(to)
     full.keep(7, 0)
@@ -319,7 +292,7 @@ def test_a_search_of_a_file_with_a_long_name_can_be_continued(run, naplps, tmp_p
     assert len(name) <= 255 and name.endswith(".json") and name.startswith(".nnn")
     os.unlink(os.path.join(to, name))
     file(to, carve.state_name("n" * 235), state_of(naplps, path, 101_000, 7))
-    assert b"the search continues at byte 101000" in run(["carve", path, "--into", to]).stderr
+    assert b"the search continues at byte 101000" in run(["fix", "--only", "carve", path, "-o", to]).stderr
 
 
 def test_a_refused_page_has_its_answer(program):

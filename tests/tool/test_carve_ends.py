@@ -7,7 +7,6 @@ from typing import Callable, Dict, Iterator, List
 import pytest
 
 from naplps.answers import Accepted
-from naplps.client import Client
 from naplps_pages.page_finder import FIRST_ASKED, MORE, MOST_GIVEN, PageFinder
 from planted import SEPARATORS
 from stream_writer import PDI, StreamWriter
@@ -24,14 +23,6 @@ FROM_PEN = {0x25: "step step", 0x27: "step back", 0x28: "place corner", 0x29: "s
 OTHERS = {0x24: "place corner", 0x26: "corner place", 0x2A: "place corner", 0x2B: "place step", 0x2E: "place step back",
           0x2F: "place step", 0x32: "place step", 0x33: "place step corner step", 0x36: "place step back",
           0x37: "place step back", 0x38: "place step"}
-
-
-@pytest.fixture(scope="module")
-def program(naplps):
-    """The program."""
-    client = Client(naplps)
-    yield client
-    client.close()
 
 
 def codes(words: int) -> Dict[str, bytes]:

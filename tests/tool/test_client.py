@@ -1,6 +1,6 @@
 """Asking the program: answers, and all that may go wrong with it."""
 import os
-import time
+from contextlib import closing
 
 import pytest
 
@@ -11,18 +11,15 @@ from naplps.client import Client
 from naplps.limits import MOST_PAGE, Limits
 from naplps_pages.source import read
 from samples import MACRO, OUTSIDE, POINT, POINT_LINE
+from scans import wait_until
 
 
 def ask(path, command="check", page=POINT, **limits):
-    program = Client(path, limits=Limits(**{"seconds": 600, **limits}))
-    try:
+    with closing(Client(path, limits=Limits(**{"seconds": 600, **limits}))) as program:
         return program.ask(command, page)
-    finally:
-        program.close()
 
 
-def test_answers_of_the_program(naplps):
-    program = Client(naplps)
+def test_answers_of_the_program(program):
     assert program.ask("check", POINT) == Accepted(1)
     assert program.ask("list", POINT) == Accepted(1, POINT_LINE.encode() + b"\n")
     assert program.ask("canon", POINT) == Accepted(1, bytes.fromhex("0E215F265240404040404040"))
@@ -31,14 +28,12 @@ def test_answers_of_the_program(naplps):
     assert program.ask("places", OUTSIDE) == Refusal(10, "Outside", None, 3, b"3 " + POINT_LINE.encode() + b"\n")
     assert program.ask("check", b"\x18") == Refusal(6, "LeftOut", "CAN", 0)
     assert program.started == 1
-    program.close()
 
 
 def test_the_budget_is_passed_on(naplps):
     for budget, answer in ((4, Accepted(1)), (3, Refusal(17, "Budget", None, 13))):
-        program = Client(naplps, budget)
-        assert program.ask("check", MACRO) == answer
-        program.close()
+        with closing(Client(naplps, budget)) as program:
+            assert program.ask("check", MACRO) == answer
 
 
 @pytest.mark.parametrize("line", [
@@ -57,30 +52,24 @@ def test_want_of_memory_is_no_answer():
     assert read_line(b"refused 22 Sink at 3", 5) == Unanswered("a device of the program failed (refused 22 Sink at 3)")
 
 
-def test_a_program_that_hangs_is_ended(fake):
+def test_a_program_that_hangs_or_reads_nothing_is_ended(fake):
     for lines in ("time.sleep(60)", BATCH + "for each in requests(): time.sleep(60)",
                   BATCH + "for each in requests(): os.write(1, b'accepted 1 ent'); time.sleep(60)"):
-        answer = ask(fake(lines), seconds=0.5)
-        assert answer == Unanswered("no answer in 0.5 s")
-
-
-def test_a_program_that_reads_nothing_is_ended(fake):
+        assert ask(fake(lines), seconds=0.5) == Unanswered("no answer in 0.5 s")
     assert ask(fake("time.sleep(60)"), page=bytes(1 << 20), seconds=0.5) == Unanswered("no answer in 0.5 s")
 
 
-def test_a_program_that_dies(fake):
-    assert ask(fake("sys.exit(3)")) == Unanswered("the program ended with status 3")
-    assert ask(fake("sys.stderr.write('request fault\\n'); sys.exit(3)")) == Unanswered(
-        "the program ended with status 3: request fault")
-    assert ask(fake("os.kill(os.getpid(), 9)")) == Unanswered("the program was ended by SIGKILL")
-    half = BATCH + "next(requests()); sys.stdout.write('accepted 1 entries\\n100\\nabc'); sys.stdout.flush()"
-    assert ask(fake(half), "list") == Unanswered("the program ended with status 0")
-
-
-@pytest.mark.parametrize("before", ["", "os.read(0, 100000); "])
-def test_a_program_that_dies_before_it_has_read_all(fake, before):
-    answer = ask(fake(before + "time.sleep(0.2); sys.exit(3)"), page=bytes(1 << 20))
-    assert answer == Unanswered("the program ended with status 3")
+@pytest.mark.parametrize("lines, why", [
+    ("sys.exit(3)", "ended with status 3"), ("os.kill(os.getpid(), 9)", "was ended by SIGKILL"),
+    ("sys.stderr.write('request fault\\n'); sys.exit(3)", "ended with status 3: request fault"),
+    (BATCH + "next(requests()); sys.stdout.write('accepted 1 entries\\n100\\nabc'); sys.stdout.flush()",
+     "ended with status 0"),
+    # Before it has read all.
+    ("time.sleep(0.2); sys.exit(3)", "ended with status 3"),
+    ("os.read(0, 100000); time.sleep(0.2); sys.exit(3)", "ended with status 3")])
+def test_a_program_that_dies(fake, lines, why):
+    page = bytes(1 << 20) if "sleep" in lines else POINT
+    assert ask(fake(lines), "list" if "requests" in lines else "check", page) == Unanswered("the program " + why)
 
 
 @pytest.mark.parametrize("said", [
@@ -109,11 +98,7 @@ def test_what_the_program_started_is_ended_too(fake, tmp_path):
     assert ask(fake(lines)) == Unanswered(NONSENSE)
     with open(note, encoding="ascii") as made:
         pid = int(made.read())
-    for _ in range(1000):
-        if not _lives(pid):
-            return
-        time.sleep(0.05)
-    raise AssertionError("it goes on")
+    wait_until(lambda: not _lives(pid))
 
 
 def _lives(pid):
@@ -144,9 +129,6 @@ def test_a_page_of_16_mib_is_a_request_and_a_longer_one_is_not(fake, tmp_path):
                         "    for each in requests(): answer(b'accepted %d entries' % len(each[2]))\n"
                         "else:\n    print('accepted', len(sys.stdin.buffer.read()), 'entries')")
     for length in (MOST_PAGE, MOST_PAGE + 1):
-        page = read(file(tmp_path, "long", bytes(length)), 60)
-        program = Client(path)
-        assert program.ask("check", page) == Accepted(length)
-        assert program.started == (1 if length == MOST_PAGE else 0)
-        program.close()
-        page.close()
+        with closing(read(file(tmp_path, "long", bytes(length)), 60)) as page, closing(Client(path)) as program:
+            assert program.ask("check", page) == Accepted(length)
+            assert program.started == (1 if length == MOST_PAGE else 0)

@@ -2,56 +2,40 @@
 import json
 import os
 import re
-import shutil
-import sqlite3
 import subprocess
 import sys
+from pathlib import Path
 from xml.etree import ElementTree
 
 import pytest
 
-from command import COMMAND, TOP
+from archive_shell import archive_with_tool, scripted, shell
+from command import TOP
 from naplps_pages import commands
 from naplps_pages.collection import kept, store, tables, texts
 from samples import has
-from scans import tree
+from scans import rows, tree
 
-with open(os.path.join(TOP, "docs", "COLLECTIONS.md"), encoding="utf-8") as document:
-    TEXT = document.read()
-with open(os.path.join(TOP, "docs", "STORE.md"), encoding="utf-8") as document:
-    STORE = document.read()
+TEXT, STORE = (Path(TOP, "docs", name).read_text("utf-8") for name in ("COLLECTIONS.md", "STORE.md"))
 
 
 @pytest.fixture
 def archive(naplps, tmp_path, monkeypatch):
-    """A folder with the example pages, where the tool is on the path."""
-    shutil.copytree(os.path.join(TOP, "examples", "pages"), os.path.join(str(tmp_path), "archive", "pages"))
-    os.mkdir(os.path.join(str(tmp_path), "bin"))
-    os.symlink(COMMAND, os.path.join(str(tmp_path), "bin", "naplps-pages"))
-    monkeypatch.setenv("NAPLPS", naplps)
-    monkeypatch.setenv("PATH", os.path.join(str(tmp_path), "bin") + os.pathsep + os.environ["PATH"])
-    return os.path.join(str(tmp_path), "archive")
-
-
-def shell(folder, words):
-    said = subprocess.run(["sh", "-c", words], cwd=folder, capture_output=True, text=True)
-    assert (said.stderr, said.returncode) == ("", 0)
-    return said.stdout.replace(os.path.dirname(folder), "")
+    return archive_with_tool(tmp_path, naplps, monkeypatch)
 
 
 def test_the_tour(archive):
     shown = re.findall(r"^    (naplps-pages .*)\n((?:    # .*\n)+)", TEXT, re.MULTILINE)
     assert len(shown) == 9
-    with open(os.path.join(TOP, "examples", "gallery", "logo.nap"), "rb") as logo, open(
-            os.path.join(archive, "disk.img"), "wb") as disk:
-        disk.write((bytes(100_000) + logo.read() + b"\x1a").ljust(164_000, b"\xe5"))
+    logo = Path(TOP, "examples", "gallery", "logo.nap").read_bytes()
+    Path(archive, "disk.img").write_bytes((bytes(100_000) + logo + b"\x1a").ljust(164_000, b"\xe5"))
     for words, printed in shown:
         assert shell(archive, words) == printed.replace("    # ", "")
 
 
 @pytest.mark.skipif(not has("sqlite3"), reason="there is no sqlite3")
 def test_questions_to_the_store(archive):
-    shell(archive, "naplps-pages scan pages --into pages.db")
+    shell(archive, "naplps-pages scan pages -o pages.db")
     asked = {name: shell(archive, words) for name, words in re.findall(
         r"<!-- store: (\w+) -->\n```sh\n(.*?)```", STORE, re.DOTALL)}
     assert asked == {
@@ -63,7 +47,7 @@ def test_the_names_of_the_pages(archive):
     (words,) = re.findall(r"<!-- kinds: pages -->\n```sh\n(.*?)```", TEXT, re.DOTALL)
     assert shell(archive, words).splitlines() == [
         "pages/" + name for name in ("fence by macro.nap", "fence.nap", "glyph.nap", "grandma's house.nap", "hello.nap",
-                                     "old/point.nap", "point again.nap", "point.nap")]
+                                     "point again.nap", "point.nap", "old/point.nap")]
 
 
 def test_the_tables_of_the_store(tmp_path):
@@ -92,27 +76,19 @@ def recipe(name):
     return re.search(r"<!-- other: %s -->\n```sh\n(.*?)```" % name, STORE, re.DOTALL)[1]
 
 
-def scripted(folder, name, *words):
-    """What a recipe prints, given these words; and its status."""
-    said = subprocess.run(["sh", "-c", recipe(name), "sh", *words], cwd=folder, capture_output=True, text=True)
-    assert said.stderr == ""
-    return said.stdout, said.returncode
-
-
 def test_pages_side_by_side_and_near_each_other(archive):
-    line = re.search(r"^    (naplps-pages diff --html .*) > two.html$", TEXT, re.MULTILINE)[1]
-    said = subprocess.run(["sh", "-c", line], cwd=archive, capture_output=True, text=True)
-    assert (said.returncode, said.stderr) == (1, "") and said.stdout.startswith("<!DOCTYPE html>")
-    (line,) = re.findall(r"^    (naplps-pages near .*)$", TEXT, re.MULTILINE)
-    assert shell(archive, f"naplps-pages scan pages --into pages.db > scan.txt 2>&1; {line}") == ""
+    line = re.search(r"^    (naplps-pages diff .* -o two.html)$", TEXT, re.MULTILINE)[1]
+    assert scripted(archive, line) == ("", 1)
+    assert Path(archive, "two.html").read_text("utf-8").startswith("<!DOCTYPE html>")
+    (line,) = re.findall(r"^    (naplps-pages equal --nearly .*)$", TEXT, re.MULTILINE)
+    assert shell(archive, f"naplps-pages scan pages -o pages.db > scan.txt 2>&1; {line}") == ""
 
 
 @pytest.mark.skipif(not has("sha256sum"), reason="there is no sha256sum")
 def test_a_bag(archive):
-    shell(archive, "naplps-pages scan pages --into pages.db")
-    assert scripted(archive, "bag") == ("6 written, 0 there\n", 0)
-    with open(os.path.join(archive, "bag", "manifest-sha256.txt"), encoding="ascii") as file:
-        lines = file.read().splitlines()
+    shell(archive, "naplps-pages scan pages -o pages.db")
+    assert scripted(archive, recipe("bag")) == ("6 written, 0 there\n", 0)
+    lines = Path(archive, "bag", "manifest-sha256.txt").read_text("ascii").splitlines()
     assert len(lines) == 6 and all(re.fullmatch(
         r"([0-9a-f]{64})  data/[0-9a-f]{2}/\1\.nap", line) for line in lines)
 
@@ -121,7 +97,7 @@ def test_a_bag(archive):
 def test_changes_in_git(archive):
     user = "-c user.name=nobody -c user.email=nobody@example.org"
     shell(archive, f"git init -q . && git add pages && git {user} commit -q -m pages")
-    assert scripted(archive, "git") == ("", 0)
+    assert scripted(archive, recipe("git")) == ("", 0)
     tree(archive, {"pages/point.nap": b"\x0fA\x07", "pages/hello.nap": b"\x0f\x18"})
     said = shell(archive, "git --no-pager diff")
     assert "\n+BELL\n" in said and "\n-CHAR primary 48 " in said and "refused 6 LeftOut CAN at 1" in said
@@ -129,16 +105,14 @@ def test_changes_in_git(archive):
 
 @pytest.mark.skipif(not texts.has_fts5(), reason="SQLite has no FTS5")
 def test_metadata_of_datasette(archive):
-    with open(os.path.join(TOP, "examples", "datasette.json"), encoding="utf-8") as file:
-        (it,) = json.load(file)["databases"].values()
-    shell(archive, "naplps-pages scan pages --into pages.db --words")
-    connection = sqlite3.connect(os.path.join(archive, "pages.db"))
-    columns = {name: {row[1] for row in connection.execute("PRAGMA table_info(%s)" % name)} for name in it["tables"]}
+    (it,) = json.loads(Path(TOP, "examples", "datasette.json").read_bytes())["databases"].values()
+    shell(archive, "naplps-pages scan pages -o pages.db")
+    store = os.path.join(archive, "pages.db")
+    columns = {name: {row[1] for row in rows(store, f"PRAGMA table_info({name})")} for name in it["tables"]}
     listing, words = it["tables"]["listing"], it["tables"]["texts"]
     assert {*listing["facets"], listing["sort"]} <= columns["listing"] and words["fts_pk"] in columns["texts"]
     assert words["fts_table"] == tables.INDEX
-    found = connection.execute(it["queries"]["find"]["sql"], {"words": "hello"}).fetchall()
-    connection.close()
+    found = rows(store, it["queries"]["find"]["sql"].replace(":words", "?"), "hello")
     assert [(os.path.basename(name), first) for name, first in found] == [("hello.nap", "Hello world!")]
 
 
@@ -146,10 +120,9 @@ def test_metadata_of_datasette(archive):
 def test_a_note_as_an_event_of_premis(archive):
     os.symlink(os.path.join(TOP, "examples"), os.path.join(archive, "examples"))
     tree(archive, {"a&b.nap": b"\x0fHELLO\x1a<\x1a"})
-    subprocess.run(["naplps-pages", "cures", "a&b.nap", "--into", "treated"], cwd=archive, capture_output=True)
-    with open(os.path.join(archive, "treated", "a&b.nap.json"), encoding="utf-8") as file:
-        note = json.load(file)
-    said, status = scripted(archive, "premis", os.path.join("treated", "a&b.nap.json"))
+    subprocess.run(["naplps-pages", "fix", "a&b.nap", "-o", "fixed"], cwd=archive, capture_output=True)
+    note = json.loads(Path(archive, "fixed", "a&b.nap.json").read_bytes())
+    said, status = scripted(archive, recipe("premis"), os.path.join("fixed", "a&b.nap.json"))
     event = ElementTree.fromstring(said)
     texts = {each.tag.split("}")[1]: (each.text or "").strip() for each in event.iter()}
     assert status == 0 and texts["eventDateTime"] == note["time"]
@@ -160,8 +133,8 @@ def test_a_note_as_an_event_of_premis(archive):
     assert texts["eventOutcomeDetailNote"] == note["note"]
 
 
-COMMANDS = {name: sorted(each.word for each in commands.options(commands.command(name).parts()) if not each.now)
-            for name in commands.NAMES if name not in commands.OLD}
+COMMANDS = {name: sorted(each.word for each in commands.options(commands.command(name).parts()))
+            for name in commands.MODULES}
 
 
 def test_completions_and_synopses_are_made_of_the_commands():
@@ -172,26 +145,22 @@ def test_completions_and_synopses_are_made_of_the_commands():
 
 @pytest.mark.parametrize("name", sorted(COMMANDS))
 def test_each_option_is_described_in_the_manual(name):
-    with open(os.path.join(TOP, "man", "naplps-pages.1"), encoding="utf-8") as file:
-        text = file.read()
-    text = text[text.index(".Sh DESCRIPTION"):]
+    text = Path(TOP, "man", "naplps-pages.1").read_text("utf-8").partition(".Sh DESCRIPTION")[2]
     for word in COMMANDS[name]:
-        assert re.search(r"Fl " + ("Fl " + word[2:] if word.startswith("--") else word[1:]) + r"\b", text), word
+        assert re.search(rf"Fl Fl {word[2:]}\b", text), word
+
+
+def completed(folder, *words):
+    """What bash completes these words to."""
+    line = ('compopt() { :; }; . "$0"; COMP_WORDS=(naplps-pages "$@"); COMP_CWORD=2; _naplps_pages; '
+            'printf "%s\\n" "${COMPREPLY[@]}"')
+    return subprocess.run(["bash", "-c", line, os.path.join(TOP, "completions", "naplps-pages.bash"), *words],
+                          capture_output=True, text=True, cwd=folder).stdout.splitlines()
 
 
 @pytest.mark.skipif(not has("bash"), reason="there is no bash")
 @pytest.mark.parametrize("name", sorted(COMMANDS))
-def test_completion_by_bash(name):
-    line = '. "$1"; COMP_WORDS=(naplps-pages "$2" --); COMP_CWORD=2; _naplps_pages; printf "%s\\n" "${COMPREPLY[@]}"'
-    said = subprocess.run(["bash", "-c", line, "bash", os.path.join(TOP, "completions", "naplps-pages.bash"), name],
-                          capture_output=True, text=True)
-    assert sorted(said.stdout.split()) == sorted({*COMMANDS[name], "--help"} - {"-o"})
-
-
-def test_completion_of_files_by_bash(tmp_path):
+def test_completion_by_bash(tmp_path, name):
+    assert sorted(completed(tmp_path, name, "--")) == sorted([*COMMANDS[name], "--help"])
     tree(tmp_path, {"pages of mine.db": b"", "other": b""})
-    line = ('compopt() { :; }; . "$1"; COMP_WORDS=(naplps-pages equal pa); COMP_CWORD=2; _naplps_pages; '
-            'printf "%s\\n" "${COMPREPLY[@]}"')
-    said = subprocess.run(["bash", "-c", line, "bash", os.path.join(TOP, "completions", "naplps-pages.bash")],
-                          capture_output=True, text=True, cwd=str(tmp_path))
-    assert said.stdout == "pages of mine.db\n"
+    assert name != "equal" or completed(tmp_path, name, "pa") == ["pages of mine.db"]

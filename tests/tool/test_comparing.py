@@ -1,7 +1,7 @@
 """Two pages side by side: columns, marks, statuses, and the document."""
+import html
 import re
 import time
-from html.parser import HTMLParser
 from random import Random
 
 import gallery
@@ -48,37 +48,18 @@ def test_lines_that_stand_often_take_little():
         assert [row.split()[0] for row in rows if row[0] != " "] == left
 
 
-class ComparedTable(HTMLParser):
-    """Collects cells, classes of rows and pictures."""
-
-    def __init__(self):
-        super().__init__()
-        self.cells, self.classes, self.pictures, self.tags = [], [], [], set()
-
-    def handle_starttag(self, tag, attrs):
-        self.tags.add(tag)
-        if tag == "td":
-            self.cells.append("")
-        if tag == "tr" and attrs:
-            self.classes.append(dict(attrs)["class"])
-        if tag == "img":
-            self.pictures.append(dict(attrs)["src"])
-
-    def handle_data(self, data):
-        if self.cells:
-            self.cells[-1] += data.rstrip("\n")
-
-
 def test_the_document(run, tmp_path):
     one = made(run, tmp_path, "<b>.nap", 'BELL\nTEXT pen=.1,.1 "<script>"')
     two = made(run, tmp_path, "&.nap", "BELL\nWAIT 1\nWAIT 2")
-    table = ComparedTable()
-    said = run(["diff", "--html", one, two])
-    table.feed(said.stdout.decode("utf-8"))
-    assert said.returncode == 1 and table.classes == ["same", "changed", "right"]
-    assert table.cells == ["BELL", " ", "BELL", 'TEXT pen=0.1,0.1 "<script>"', "|", "WAIT 1", "", ">", "WAIT 2"]
-    assert len(table.pictures) == 2 and all(each.startswith("data:image/svg+xml;base64,") for each in table.pictures)
-    assert not table.tags & {"script", "b"}
+    said = run(["diff", "--format", "html", one, two])
+    text = said.stdout.decode("utf-8")
+    assert run(["diff", one, two, "-o", str(tmp_path / "diff.html")]).returncode == 1
+    assert (tmp_path / "diff.html").read_bytes() == said.stdout
+    assert said.returncode == 1 and re.findall(r'<tr class="(\w+)">', text) == ["same", "changed", "right"]
+    assert [html.unescape(cell) for cell in re.findall("<td>([^<]*)</td>", text)] == [
+        "BELL", " ", "BELL", 'TEXT pen=0.1,0.1 "<script>"', "|", "WAIT 1", "", ">", "WAIT 2"]
+    assert len(re.findall('<img [^>]* src="data:image/svg\\+xml;base64,', text)) == text.count("<img ") == 2
+    assert not re.search("<(script|b)>", text)
 
 
 def test_pages_that_cannot_be_compared(run, tmp_path):

@@ -2,6 +2,7 @@
 import hashlib
 import json
 import os
+from pathlib import Path
 from random import Random
 
 import pytest
@@ -9,6 +10,7 @@ from hypothesis import given
 from hypothesis import strategies as st
 
 from command import file
+from folders import files_in
 from naplps.answers import Refusal
 from naplps.treating.changes import AROUND, WITHIN
 from naplps.treating.treatments import MOST_ASKED, TREATMENTS, TreatmentSearch, grade_of, treated, untreated
@@ -40,32 +42,23 @@ LEFT = {"tail and lines": b"\r\n"}
 
 
 @pytest.mark.parametrize("name", SICK)
-def test_each_is_found(run, tmp_path, name):
-    said = run(["cures", "--json", file(tmp_path, "page", SICK[name])])
+def test_each_is_found_and_its_note_applied_backwards_gives_the_source(run, tmp_path, to, name):
+    path, copy = file(tmp_path, "page", SICK[name]), PAGE + LEFT.get(name, b"")
+    said = run(["fix", "--only", "repair", "--json", path])
     cure = json.loads(said.stdout)["cure"]
-    assert said.returncode == 1
+    assert said.returncode == 0
     names = [each["treatment"] for each in cure["treatments"]]
     assert sorted(names) == sorted(NAMES.get(name, name).split(", "))
     grades = [each["grade"] for each in cure["treatments"]]
     assert grades == [TREATMENTS[each].grade for each in names] == sorted(grades)      # (around comes first)
     assert cure["grade"] == grade_of("+".join(names)) == grades[-1]
-    copy = PAGE + LEFT.get(name, b"")
-    if name != "eight-bit":
-        assert cure["copy"] == {"bytes": len(copy), "sha256": sha(copy)}
-
-
-@pytest.mark.parametrize("name", SICK)
-def test_the_note_applied_backwards_gives_the_source(run, tmp_path, name):
-    path, to = file(tmp_path, "page", SICK[name]), os.path.join(str(tmp_path), "to")
-    said = run(["cures", path, "--into", to])
-    with open(os.path.join(to, "page"), "rb") as copy, open(os.path.join(to, "page.json"), encoding="ascii") as note:
-        data, row = copy.read(), json.load(note)
-    assert undone(data, row["treatments"]) == SICK[name]
-    assert row["copy"] == {"bytes": len(data), "sha256": sha(data)}
-    assert row["source"] == {"bytes": len(SICK[name]), "sha256": sha(SICK[name])}
+    said = run(["fix", "--only", "repair", path, "-o", to])
+    data, row = Path(to, "page").read_bytes(), json.loads(Path(to, "page.json").read_bytes())
+    assert (data == copy or name == "eight-bit") and undone(data, row["treatments"]) == SICK[name]
+    assert row["copy"] == cure["copy"] == summary(data) and row["source"] == summary(SICK[name])
     assert ("The copy is a guess: " in said.stdout.decode()) == ("The copy is a guess: " in row["note"]) == (
         row["grade"] == "within")
-    assert run(["check", os.path.join(to, "page")]).returncode == 0
+    assert run(["check", to + "/page"]).returncode == 0
 
 
 WITH_BIT = {"mark": lambda byte: byte | 0x80, "even": lambda byte: byte | (bin(byte).count("1") % 2 << 7),
@@ -88,8 +81,7 @@ def undone(data, treatments):
 
 
 def test_what_was_taken_is_told(run, tmp_path):
-    said = run(["cures", file(tmp_path, "page", SICK["front"])])
-    assert said.stdout.decode().splitlines() == [
+    assert run(["fix", "--only", "repair", file(tmp_path, "page", SICK["front"])]).stdout.decode().splitlines() == [
         "refused 6 LeftOut CAN at 0", "front, around: taken away: 5 bytes at the front: CAN, NSR, 1B 22 46",
         "then: accepted 36 entries", "before: %d bytes, sha256 %s" % (len(PAGE) + 5, sha(SICK["front"])),
         "after: %d bytes, sha256 %s" % (len(PAGE), sha(PAGE)),
@@ -101,75 +93,61 @@ def sha(data):
     return hashlib.sha256(data).hexdigest()
 
 
-def test_copies_are_written_with_their_provenance_and_only_when_asked(run, tmp_path):
-    path, to = file(tmp_path, "page", SICK["tail, parity"]), os.path.join(str(tmp_path), "to")
-    assert os.listdir(str(tmp_path)) == ["page"]
-    said = run(["cures", path, "--into", to])
-    assert said.returncode == 1 and sorted(os.listdir(to)) == ["page", "page.json"]
-    with open(os.path.join(to, "page"), "rb") as copy:
-        assert copy.read() == PAGE
-    with open(os.path.join(to, "page.json"), encoding="ascii") as written:
-        row = json.load(written)
+def summary(data):
+    """What notes say of some bytes."""
+    return {"bytes": len(data), "sha256": sha(data)}
+
+
+def test_copies_are_written_with_their_provenance_and_only_when_asked(run, tmp_path, to):
+    path = file(tmp_path, "page", SICK["tail, parity"])
+    assert run(["fix", "--only", "repair", path, "-o", to]).returncode == 0
+    assert sorted(os.listdir(to)) == ["page", "page.json"]
+    note, row = Path(to, "page.json"), json.loads(Path(to, "page.json").read_bytes())
+    assert Path(to, "page").read_bytes() == PAGE
     assert row["source_name"] == path and row["refusal"] == "refused 1 EighthBit at 1"
-    assert row["source"] == {"bytes": len(PAGE) + 3, "sha256": sha(SICK["tail, parity"])}
-    assert row["copy"] == {"bytes": len(PAGE), "sha256": sha(PAGE)}
+    assert row["source"] == summary(SICK["tail, parity"]) and row["copy"] == summary(PAGE)
     assert [(each["treatment"], each["offset"], each["bytes"]) for each in row["treatments"]] == [
         ("tail", len(PAGE), "1a1a1a"), ("parity", 0, "")]
     assert set(row) >= {"program", "tool", "time", "budget", "note"}
-    row["time"] = "2026-01-01T00:00:00Z"
-    with open(os.path.join(to, "page.json"), "w", encoding="ascii") as written:
-        json.dump(row, written)
-    again = run(["cures", path, "--into", to])                  # (what is there stays, with its time)
-    assert (again.stderr, again.returncode) == (b"", 1)
-    with open(os.path.join(to, "page.json"), encoding="ascii") as written:
-        assert json.load(written) == row
+    earlier = json.dumps({**row, "time": "2026-01-01T00:00:00Z"})
+    note.write_text(earlier, "ascii")
+    again = run(["fix", "--only", "repair", path, "-o", to])                  # (what is there stays, with its time)
+    assert (again.stderr, again.returncode) == (b"", 0) and note.read_text("ascii") == earlier
 
 
-def test_a_copy_of_another_page_is_not_written_over(run, tmp_path):
-    to = os.path.join(str(tmp_path), "to")
+def test_a_copy_of_another_page_is_not_written_over(run, tmp_path, to):
     os.mkdir(to)
     file(to, "page", b"mine")
-    said = run(["cures", file(tmp_path, "page", SICK["tail"]), "--into", to])
+    said = run(["fix", "--only", "repair", file(tmp_path, "page", SICK["tail"]), "-o", to])
     assert said.returncode == 3 and said.stderr.endswith(b"is there already with other bytes, and isn't written over\n")
-    with open(os.path.join(to, "page"), "rb") as there:
-        assert there.read() == b"mine"
-    assert os.listdir(to) == ["page"]
+    assert files_in(to) == {b"page": b"mine"}
 
 
-def test_a_page_that_is_accepted_or_stays_refused_gets_no_copy(run, tmp_path):
+def test_a_page_that_is_accepted_or_stays_refused_gets_no_copy(run, tmp_path, to):
     good, bad = file(tmp_path, "good", PAGE), file(tmp_path, "bad", PAGE + b"\x1b\x51A")
-    to = os.path.join(str(tmp_path), "to")
-    said = run(["cures", good, bad, "--into", to])
+    said = run(["fix", "--only", "repair", good, bad, "-o", to])
     assert not os.path.exists(to) and said.returncode == 1
+    # (a page whose start draws is no header)
+    page = PAGE + b"\x1b\x5f" + PAGE
+    assert json.loads(run(["fix", "--only", "repair", "--json", "-"], page).stdout)["cure"] is None
     assert said.stdout.decode().splitlines() == [
         "%s: accepted 36 entries" % good, "%s: refused 6 LeftOut EDC1 at %d" % (bad, len(PAGE) + 1),
-        "%s: no treatment makes it readable" % bad]
+        "%s: no repair makes it readable" % bad]
 
 
-def test_a_page_whose_start_draws_is_no_header(run, tmp_path):
-    page = PAGE + b"\x1b\x5f" + PAGE
-    assert json.loads(run(["cures", "--json", file(tmp_path, "page", page)]).stdout)["cure"] is None
+BODY = POINT + b"\x1b\x40A\x1a\x1b\x45"
 
 
-def test_parity_needs_one_parity_of_all_bytes():
-    assert not treated(untreated(b"\x80\x81"), 0, ("parity",))
-    assert not treated(untreated(b"AAC"), 0, ("parity",))
-    assert [each.data for each in treated(untreated(b"\x81A"), 0, ("parity",))] == [b"\x01A"]
-
-
-def test_a_mark_isnt_taken_off_what_may_be_picture_codes():
-    assert not treated(untreated(b"\xa6\xd2\xc0\xc0"), 0, ("mark",))
-    assert [each.data for each in treated(untreated(b"\xc8\xc5\xcc\xcc\xcf"), 0, ("mark",))] == [b"HELLO"]
-    assert [each.data for each in treated(untreated(b"\x8e\xa6\xd2"), 0, ("mark",))] == [b"\x0e\x26\x52"]
-
-
-def test_the_end_of_a_file_is_no_byte_of_a_body():
-    body = b"\x1b\x40A\x1a\x1b\x45"
-    assert not treated(untreated(POINT + body), 0, ("tail",))
-    (made,) = treated(untreated(POINT + body + b"\x1aB"), 0, ("tail",))
-    assert made.data == POINT + body
-    assert not treated(untreated(POINT + b"\x1a" + b"A" * 1024), 0, ("tail",))
-    assert [each.data for each in treated(untreated(POINT + b"\x1a" + b"A" * 1023), 0, ("tail",))] == [POINT]
+@pytest.mark.parametrize("name, data, copies", [
+    # Parity needs one parity of all bytes; a mark isn't taken off what may be picture codes.
+    ("parity", b"\x80\x81", []), ("parity", b"AAC", []), ("parity", b"\x81A", [b"\x01A"]),
+    ("mark", b"\xa6\xd2\xc0\xc0", []), ("mark", b"\xc8\xc5\xcc\xcc\xcf", [b"HELLO"]),
+    ("mark", b"\x8e\xa6\xd2", [b"\x0e\x26\x52"]),
+    # The end of a file is no byte of a body.
+    ("tail", BODY, []), ("tail", BODY + b"\x1aB", [BODY]), ("tail", POINT + b"\x1a" + b"A" * 1024, []),
+    ("tail", POINT + b"\x1a" + b"A" * 1023, [POINT])])
+def test_copies_of_a_treatment(name, data, copies):
+    assert [each.data for each in treated(untreated(data), 0, (name,))] == copies
 
 
 @pytest.mark.parametrize("name, code", [("can", b"\x18"), ("nsr", b"\x1f"), ("designations", b"\x1b\x22\x46")])
@@ -180,23 +158,23 @@ def test_bodies_of_macros_stay_as_they_are(name, code):
 
 
 def test_the_record_is_told(run, tmp_path):
-    said = run(["cures", file(tmp_path, "page", sauce(PAGE, lines=2))]).stdout.decode()
-    assert said.splitlines()[1] == (
+    said = run(["fix", "--only", "repair", file(tmp_path, "page", sauce(PAGE, lines=2))])
+    assert said.stdout.decode().splitlines()[1] == (
         "sauce, around: taken away: 262 bytes at the end: SAUCE, title 'A logo', author 'Caf\u00e9', group 'None', "
         "date '19840114'")
-    row = json.loads(run(["cures", "--json", "page"], cwd=str(tmp_path)).stdout)
+    row = json.loads(run(["fix", "--only", "repair", "--json", "page"], cwd=str(tmp_path)).stdout)
     (each,) = row["cure"]["treatments"]
     assert each["record"] == {"title": "A logo", "author": "Caf\u00e9", "group": "None", "date": "19840114"}
 
 
 def test_why_a_treatment_is_not_sure_is_told(run, tmp_path):
     page = b"\xa6\xd2\xc0\xc0\x80A\xa6\xd2\x85\x1b\x7d"
-    said = run(["cures", file(tmp_path, "page", page)]).stdout.decode().splitlines()
+    said = run(["fix", "--only", "repair", file(tmp_path, "page", page)]).stdout.decode().splitlines()
     why = "macros stand beside locking shifts at 9"
-    assert said[1:] == ["no treatment makes it readable", "eight-bit: not tried, since it isn't sure: " + why]
-    row = json.loads(run(["cures", "--json", "page"], cwd=str(tmp_path)).stdout)
+    assert said[1:] == ["no repair makes it readable", "eight-bit: not tried, since it isn't sure: " + why]
+    row = json.loads(run(["fix", "--only", "repair", "--json", "page"], cwd=str(tmp_path)).stdout)
     assert row["cure"] is None and row["unsure"] == [{"treatment": "eight-bit", "reason": why}]
-    assert json.loads(run(["cures", "--json", "-"], POINT).stdout)["unsure"] is None
+    assert json.loads(run(["fix", "--only", "repair", "--json", "-"], POINT).stdout)["unsure"] is None
 
 
 SPECIAL = (b"\x1a", b"\x18", b"\x1f", b"\x1f\x41\x42", b"\x1b\x22\x46", b"\x1b\x28\x41", b"\x1b\x40A", b"\x1b\x45",
@@ -240,7 +218,7 @@ def test_a_search_ends_whatever_the_answers(data, chance):
 def test_long_pages_made_to_do_harm_end(run, tmp_path, piece):
     some = piece * ((1 << 20) // len(piece))
     for data in (b"\x18" + some, Random(1).randbytes(1000) + some + b"\x1a"):
-        said = run(["cures", "--json", file(tmp_path, "page", data)])
+        said = run(["fix", "--only", "repair", "--json", file(tmp_path, "page", data)])
         assert said.returncode in (0, 1) and said.stderr == b""
 
 

@@ -1,9 +1,9 @@
 """Pages in words: each letter once, in the order of the screen; areas, places, colours and changes; the command."""
+import os
 import re
 import time
 import unicodedata
 from collections import Counter
-from html.parser import HTMLParser
 from random import Random
 
 import pytest
@@ -14,9 +14,7 @@ import entries as listed
 import gallery
 import naplps as nap
 from command import file
-from libraries import library_path
-from naplps import backends, letters
-from naplps.backends import LibraryBackend
+from naplps import letters
 from naplps.drawing.description import MOST_SHORT, colour_name, describe, place_name
 from naplps.drawing.paper import escaped
 from naplps.entry import read
@@ -26,16 +24,11 @@ from samples import BOMB, OUTSIDE
 from strategies import pages
 
 CHANCE = st.randoms(use_true_random=False)
+PLACES = {(0.1, 0.9): "top left", (0.5, 0.5): "middle", (0.9, 0.1): "bottom right", (0.5, 1.0): "top",
+          (0.0, 0.5): "left", (0.5, 1.2): "off the screen", (-0.1, 0.5): "off the screen"}
+COLOURS = {"#000000": "black", "#ffffff": "white", "#ff0000": "red", "#00ff00": "green", "#0000ff": "blue",
+           "#ffff00": "yellow", "#00ffff": "cyan", "#ff00ff": "magenta", "#808080": "grey"}
 LOOK, INK = "colour=own-start text=0,0/{}/----", "pel=0,0 colour={} texture=0/none"
-
-
-@pytest.fixture(scope="module")
-def library():
-    """The module asks the library."""
-    before = backends._found
-    backends._found = LibraryBackend(library_path())
-    yield
-    backends._found = before
 
 
 def described(*lines):
@@ -115,18 +108,9 @@ def test_areas_by_size_colour_and_place():
     assert described(*[f"RECT-FILLED 0,0 1677721,1310720 {red}"] * 3) == ["3 small red areas, bottom left"]
 
 
-@pytest.mark.parametrize("x, y, name", [
-    (0.1, 0.9, "top left"), (0.5, 0.5, "middle"), (0.9, 0.1, "bottom right"), (0.5, 1.0, "top"), (0.0, 0.5, "left"),
-    (0.5, 1.2, "off the screen"), (-0.1, 0.5, "off the screen")])
-def test_places(x, y, name):
-    assert place_name(x, y) == name
-
-
-@pytest.mark.parametrize("colour, name", [
-    ("#000000", "black"), ("#ffffff", "white"), ("#ff0000", "red"), ("#00ff00", "green"), ("#0000ff", "blue"),
-    ("#ffff00", "yellow"), ("#00ffff", "cyan"), ("#ff00ff", "magenta"), ("#808080", "grey")])
-def test_names_of_colours(colour, name):
-    assert colour_name(colour) == name
+def test_names_of_places_and_of_colours():
+    assert {place: place_name(*place) for place in PLACES} == PLACES
+    assert {colour: colour_name(colour) for colour in COLOURS} == COLOURS
 
 
 @given(CHANCE, st.integers(0, 60))
@@ -166,13 +150,11 @@ def test_each_letter_of_long_lists_stands_once():
         assert len(escaped(found.short()).encode("utf-8")) <= MOST_SHORT
 
 
-def test_a_page_and_its_canonical_stream_have_one_description(run, tmp_path):
-    page = file(tmp_path, "page.nap", gallery.stored("weather.nap"))
-    canonical = file(tmp_path, "canonical.nap", run(["canon", page]).stdout)
-    said = run(["describe", page])
-    assert (said.returncode, said.stderr) == (0, b"")
-    assert said.stdout == run(["describe", canonical]).stdout
-    assert said.stdout.startswith("top left: WEATHER MON 14 JAN\n".encode())
+def test_a_page_and_its_canonical_stream_have_one_description(run):
+    page = os.path.join(gallery.FOLDER, "weather.nap")
+    said = run(["show", "--format", "words", page])
+    assert (said.returncode, said.stderr) == (0, b"") and said.stdout.startswith(b"top left: WEATHER MON 14 JAN\n")
+    assert said.stdout == run(["show", "--format", "words", "-"], run(["canon", page]).stdout).stdout
 
 
 INSIDE = LOOK.format("normal")
@@ -200,40 +182,14 @@ def test_lists_of_most_entries_take_little(name):
     assert time.process_time() - began < MOST_SECONDS
 
 
-class Words(HTMLParser):
-    """Collects the words of a document."""
-
-    def __init__(self):
-        super().__init__()
-        self.items, self.tags = [], Counter()
-
-    def handle_starttag(self, tag, attrs):
-        self.tags[tag] += 1
-
-    def handle_data(self, data):
-        if data.strip():
-            self.items.append(data.strip())
-
-
-def test_the_document(run, tmp_path):
-    page = file(tmp_path, "<b>&.nap", run(["make", "-"], b'TEXT pen=.1,.1 "<i> & \\"X\\""\nWAIT 5').stdout)
-    said = run(["describe", "--html", page])
-    words = Words()
-    words.feed(said.stdout.decode("utf-8"))
-    assert said.returncode == 0 and words.tags["i"] == words.tags["b"] == 0
-    assert words.items[-4:] == [
-        "Text", 'bottom left: <i> & "X"', "What changes", "the page waits once, 0.5 seconds in all"]
-
-
 def test_a_sketch_has_its_description(run, tmp_path):
     page = file(tmp_path, "page.nap", run(["make", "-"], b'TEXT pen=.1,.1 "A<B"\nWAIT 5').stdout)
-    svg = run(["look", page]).stdout.decode("utf-8")
-    assert re.search("<desc>(.*?)</desc>", svg)[1] == (
+    assert re.search("<desc>(.*?)</desc>", run(["show", page]).stdout.decode("utf-8"))[1] == (
         "bottom left: A&lt;B; the page waits once, 0.5 seconds in all; waits aren't drawn")
 
 
 def test_pages_without_a_description(run, tmp_path):
-    said = run(["describe", file(tmp_path, "refused.nap", OUTSIDE)])
+    said = run(["show", "--format", "words", file(tmp_path, "refused.nap", OUTSIDE)])
     assert said.returncode == 1 and b"the description is of what comes before" in said.stderr
-    bomb = run(["describe", file(tmp_path, "bomb.nap", BOMB)])
+    bomb = run(["show", "--format", "words", file(tmp_path, "bomb.nap", BOMB)])
     assert (bomb.returncode, bomb.stdout) == (3, b"") and b"more than 200000 entries" in bomb.stderr

@@ -23,7 +23,7 @@ def program(folder, *words):
     return str(path)
 
 
-def test_the_module_paints_what_the_vectors_have():
+def test_the_module_paints_what_the_vectors_have_and_each_move_has_one():
     every = [it for path in FILES for it in dots.vectors(path)]
     assert len(DRAWN) >= 110 and all(it.rows for it in DRAWN)
     assert len({it.name for it in every}) == len(every)
@@ -33,9 +33,6 @@ def test_the_module_paints_what_the_vectors_have():
         colours = {ink: colour for ink, colour in painted.colours().items() if not ink & DIRECT}
         assert dots._wrong_dots(it, told) is None and dots._wrong_colours(it, told, colours) is None, it.name
         assert it.hash in ("", painted.hash())
-
-
-def test_each_move_has_a_vector():
     words = [line.split() for it in DRAWN for line in it.lines]
     assert {each[1] for each in words if each[0] == "MOVE"} == {"APB", "APF", "APD", "APU", "APR", "APH", "APS"}
 

@@ -7,22 +7,10 @@ import naplps as nap
 from command import TOP
 from naplps.dots.frames import moving, png, stored
 from naplps.entry import read_line
+from pngs import chunks
 
 GALLERY = os.path.join(TOP, "examples", "gallery")
-U = 32768
 DOT = "RECT-FILLED 0,0 32768,32768 pel=0,0 colour=%s texture=0/none"
-
-
-def chunks(data):
-    assert data[:8] == b"\x89PNG\r\n\x1a\n"
-    at, found = 8, []
-    while at < len(data):
-        length, name = struct.unpack(">I4s", data[at:at + 8])
-        body, (crc,) = data[at + 8:at + 8 + length], struct.unpack(">I", data[at + 8 + length:at + 12 + length])
-        assert crc == zlib.crc32(name + body)
-        found.append((name, body))
-        at += 12 + length
-    return found
 
 
 def pixels(data):
@@ -56,7 +44,7 @@ def test_the_picture_has_the_dots(run):
         it = nap.raster(nap.entries(file.read()))
     colours = it.colours()
     for scale in (1, 3):
-        said = run(["look", "--dots", "--scale", str(scale), path])
+        said = run(["show", "--format", "png", "--scale", str(scale), path])
         wide, rows = pixels(said.stdout)
         assert (said.returncode, wide, len(rows)) == (0, 256 * scale, 200 * scale)
         assert all(rows[y * scale][x * scale] == rows[y * scale + scale - 1][x * scale + scale - 1]
@@ -65,26 +53,13 @@ def test_the_picture_has_the_dots(run):
 
 def test_the_same_bytes_in_any_surroundings_and_spelling(run):
     paths = [os.path.join(GALLERY, f"skyline, {how}.nap") for how in ("absolute", "relative")]
-    said = {run(["look", "--dots", path], env=env).stdout for path in paths for env in (
+    said = {run(["show", "--format", "png", path], env=env).stdout for path in paths for env in (
         {}, {"LC_ALL": "tr_TR.UTF-8", "TZ": "Asia/Kathmandu", "PYTHONHASHSEED": "7"}, {"LC_ALL": "C", "TZ": "UTC"})}
     assert len(said) == 1
 
 
-def test_a_picture_for_each_page_in_a_folder(run, tmp_path):
-    said = run(["look", "--dots", "--into", str(tmp_path / "out"), *[
-        os.path.join(GALLERY, name) for name in ("chart.nap", "logo.nap")]])
-    assert said.returncode == 0 and sorted(os.listdir(tmp_path / "out")) == ["chart.nap.png", "logo.nap.png"]
-
-
-def test_options_that_exclude_each_other(run):
-    for words, told in ((["--dots", "--png"], "--dots and --png"), (["--animate", "--past"], "--animate and --past"),
-                        (["--dots", "--svg", "x"], "--dots and --svg"), (["--scale", "2"], "--scale is for")):
-        said = run(["look", *words, os.path.join(GALLERY, "chart.nap")])
-        assert said.returncode == 2 and told in said.stderr.decode(), words
-
-
 def test_a_refused_page_is_told_and_drawn_up_to_there(run):
-    said = run(["look", "--dots", os.path.join(GALLERY, "signature.nap")])
+    said = run(["show", "--format", "png", os.path.join(GALLERY, "signature.nap")])
     assert said.returncode == 1 and b"the picture shows what comes before" in said.stderr and said.stdout
 
 
@@ -108,10 +83,9 @@ def lower_left(frames):
 def test_waits_and_the_line_take_their_time():
     red, green = DOT % "direct:0,65535,0", DOT % "direct:65535,0,0"
     # (the first has 120 bytes before it, which take a second; then it stands for 1.5 seconds, and the end for 5)
-    it = film("BELL", red, "WAIT 15", green, places=[0, 120, 120, 120])
-    assert lower_left(it.frames) == [(0, 1000), (0xFF0000, 1500), (0x00FF00, 5000)] and not it.was_cut
-    fast = film("BELL", red, "WAIT 15", green, places=[0, 120, 120, 120], speed=12000)
-    assert lower_left(fast.frames)[0] == (0, 100)
+    for speed, time in ((1200, 1000), (12000, 100)):
+        it = film("BELL", red, "WAIT 15", green, places=[0, 120, 120, 120], speed=speed)
+        assert lower_left(it.frames) == [(0, time), (0xFF0000, 1500), (0x00FF00, 5000)] and not it.was_cut
 
 
 def test_a_blink_shows_its_other_colour_while_it_is_on():
@@ -122,8 +96,7 @@ def test_a_blink_shows_its_other_colour_while_it_is_on():
 
 
 def test_what_is_marked_is_dark_for_half_of_each_second():
-    it = film("BLINK-START colour=own-start", DOT % "own-start")
-    assert lower_left(it.frames) == 5 * [(0xFFFFFF, 500), (0, 500)]
+    assert lower_left(film("BLINK-START colour=own-start", DOT % "own-start").frames) == 5 * [(0xFFFFFF, 500), (0, 500)]
 
 
 def test_long_films_are_cut_with_a_message(run, tmp_path):
@@ -132,7 +105,7 @@ def test_long_films_are_cut_with_a_message(run, tmp_path):
         256 * (number % 256)) for number in range(600)))
     made = run(["make", "-o", str(tmp_path / "long.nap"), str(page)])
     assert made.returncode == 0, made.stderr
-    said = run(["look", "--animate", str(tmp_path / "long.nap")])
+    said = run(["show", "--format", "apng", str(tmp_path / "long.nap")])
     assert said.returncode == 3 and b"the first 500 frames" in said.stderr
     told = chunks(said.stdout)
     assert dict(told)[b"acTL"] == struct.pack(">II", 500, 0)

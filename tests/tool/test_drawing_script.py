@@ -4,6 +4,7 @@ import json
 import os
 import random
 import subprocess
+from pathlib import Path
 
 import pytest
 
@@ -43,8 +44,7 @@ def assert_same(streams, lists):
     for at in range(0, len(streams), CHUNK):
         some, texts = streams[at:at + CHUNK], lists[at:at + CHUNK]
         for stream, lines, mine in zip(some, texts, drawn(some, texts)):
-            wanted = json.loads(timeline(lines).json)
-            assert mine == wanted, stream[:200].hex()
+            assert mine == json.loads(timeline(lines).json), stream[:200].hex()
             steps += len(mine["steps"])
     return steps
 
@@ -56,20 +56,15 @@ def test_all_lists_of_the_vectors():
     print(f"{len(found)} lists, {steps} steps")
 
 
-def test_the_gallery_and_made_pages(naplps):
+def test_the_gallery_made_pages_and_lists_by_chance(naplps):
     chance = random.Random(88)
-    sources = [*pages().values(), *(made_page(chance) for _ in range(MADE * 5 // 4))]
+    lists = [[str(each) for each in legal_list(chance, chance.randrange(1, 40))] for _ in range(500)]
+    sources = [*pages().values(), *(made_page(chance) for _ in range(MADE * 5 // 4)), *made(naplps, lists)]
     answers = [each for each in asked(naplps, sources) if each.canonical]
     steps = assert_same([each.canonical for each in answers],
                         [each.lines.decode("ascii").splitlines() for each in answers])
-    assert len(answers) > MADE
+    assert len(answers) > MADE + 500
     print(f"{len(answers)} pages, {steps} steps")
-
-
-def test_lists_by_chance(naplps):
-    chance = random.Random(89)
-    lists = [[str(each) for each in legal_list(chance, chance.randrange(1, 40))] for _ in range(500)]
-    print(f"{assert_same(made(naplps, lists), lists)} steps")
 
 
 POLYGON = "POLY-FILLED %s pel=0,0 colour=own-start texture=24/none"
@@ -80,18 +75,14 @@ DASHED = "LINE 0,0 8388607,8388607 pel=1,1 colour=own-start texture=3/none"
 
 @pytest.mark.parametrize("name, lines", [
     ("entries", ["BELL"] * 20_001), ("points", [POLYGON % " ".join(["0,0", "9,9"] * 1_000)] * 101),
-    ("dashes", [DASHED] * 2_000), ("bytes", [POLYGON % " ".join(["8000000,8000000", "0,0"] * 1_000)] * 90)])
+    ("dashes", [DASHED] * 2_000), ("bytes", [POLYGON % " ".join(["8000000,8000000", "0,0"] * 1_000)] * 90),
+    ("dashes that are cleared", [DASHED, "CLEAR pen=8388607,8388607"] * CLEARED)])
 def test_the_bounds(naplps, name, lines):
+    """What comes in time counts though it is cleared; a sketch has it all then."""
     [stream] = made(naplps, [lines])
     assert_same([stream], [lines])
     assert next(drawn([stream], [lines]))["drawn"] < len(lines)
-
-
-def test_what_comes_in_time_counts_though_it_is_cleared(naplps):
-    lines = [DASHED, "CLEAR pen=8388607,8388607"] * CLEARED
-    [stream] = made(naplps, [lines])
-    assert_same([stream], [lines])
-    assert next(drawn([stream], [lines]))["drawn"] < len(lines) == draw(lines).drawn
+    assert len(lines) != 2 * CLEARED or draw(lines).drawn == len(lines)
 
 
 def test_what_is_no_line_is_none_for_both():
@@ -132,8 +123,7 @@ def test_a_changed_drawing_is_seen(tmp_path):
                      *(f"browser/{part}/{each}" for part in ("drawing", "raster")
                        for each in os.listdir(os.path.join(TOP, "browser", part)))):
             (folder / path).parent.mkdir(parents=True, exist_ok=True)
-            with open(os.path.join(TOP, path), encoding="utf-8") as file:
-                text = file.read()
+            text = Path(TOP, path).read_text("utf-8")
             if path == f"browser/drawing/{name}":
                 assert before in text
                 text = text.replace(before, after)
@@ -146,6 +136,5 @@ def test_a_changed_drawing_is_seen(tmp_path):
 def test_sizes():
     folder = os.path.join(TOP, "browser", "drawing")
     for path in (*(os.path.join(folder, name) for name in os.listdir(folder)), f"{folder}.js"):
-        with open(path, encoding="utf-8") as file:
-            lines = file.read().splitlines()
+        lines = Path(path).read_text("utf-8").splitlines()
         assert len(lines) < 800 and max(map(len, lines)) <= 120, path

@@ -11,7 +11,6 @@ from hypothesis import strategies as st
 from command import TOP
 from eight_model import acts
 from naplps.answers import Accepted
-from naplps.client import Client
 from naplps.treating.changes import NotSure, edited, undone
 from naplps.treating.eight_bit import MOST_LENGTH, edits
 from old_files import box, in_eight_bits
@@ -58,17 +57,14 @@ def test_it_does_what_the_eight_bit_form_does(data):
     assert undone(made, told) == data
 
 
-def test_pictures_in_eight_bits_have_their_list(naplps):
-    chance, program = Random(8), Client(naplps)
-    try:
-        for number in range(400):
-            page = picture(chance, number)
-            eight = in_eight_bits(page)
-            assert not eight.isascii()
-            answer, found = program.ask("list", page), program.ask("list", edited(eight, edits(eight)))
-            assert isinstance(answer, Accepted) and found == answer
-    finally:
-        program.close()
+def test_pictures_in_eight_bits_have_their_list(program):
+    chance = Random(8)
+    for number in range(400):
+        page = picture(chance, number)
+        eight = in_eight_bits(page)
+        assert not eight.isascii()
+        answer, found = program.ask("list", page), program.ask("list", edited(eight, edits(eight)))
+        assert isinstance(answer, Accepted) and found == answer
 
 
 FIRST = b"\xa6\xd2\xc0\xc0"
@@ -116,17 +112,14 @@ def drawn(chance):
     return b"".join(some)
 
 
-def test_the_figures_of_the_decisions(naplps):
+def test_the_figures_of_the_decisions(program):
     pages = {each.page or each.data for each in box() if each.sort == "picture" or each.page}
-    program, alike, same = Client(naplps), 0, 0
-    try:
-        for page in pages:
-            made = edited(in_eight_bits(page), edits(in_eight_bits(page)))
-            answers = [program.ask("canon", each) for each in (page, made)]
-            alike += made == page
-            same += isinstance(answers[0], Accepted) and answers[0] == answers[1]
-    finally:
-        program.close()
+    alike = same = 0
+    for page in pages:
+        made = edited(in_eight_bits(page), edits(in_eight_bits(page)))
+        answers = [program.ask("canon", each) for each in (page, made)]
+        alike += made == page
+        same += isinstance(answers[0], Accepted) and answers[0] == answers[1]
     chance, reasons, right = Random(1983), Counter(), 0
     for _ in range(3000):
         data = drawn(chance)
@@ -137,7 +130,7 @@ def test_the_figures_of_the_decisions(naplps):
             continue
         right += acts(made, eight=False) == acts(data, eight=True)
     with open(os.path.join(TOP, "docs", "DECISIONS.md"), encoding="utf-8") as document:
-        section = document.read().split("### Two grades of treatments\n")[1].split("\n## ")[0]
+        section = document.read().split("### Two grades of repairs\n")[1].split("\n## ")[0]
     told = {number.replace(",", "") for number in re.findall(r"[0-9][0-9,]*", section)}
     assert {str(number) for number in (len(pages), alike, right, sum(reasons.values()))} <= told and same == len(pages)
     assert right + sum(reasons.values()) == 3000

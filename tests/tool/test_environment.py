@@ -71,15 +71,11 @@ def test_no_variable_has_anything_of_the_current_folder_run(checkout, hostile, f
             tried(checkout, hostile, {name: saying})
 
 
-def test_all_of_them_at_once(checkout, hostile):
+def test_neither_all_of_them_nor_functions_of_the_environment(checkout, hostile):
     quiet = {name: "@/evil" for name in variables() if name not in SAYINGS}
     tried(checkout, hostile, {**quiet, "PATH": ":@:.:/usr/bin"})
-
-
-def test_no_function_of_the_environment_runs(checkout, hostile):
-    said = "() { echo function >> %s; }" % hostile[1]
-    tried(checkout, hostile, {f"BASH_FUNC_{name}%%": said for name in FUNCTIONS})
-    tried(checkout, hostile, {f"BASH_FUNC_{name}()": said for name in FUNCTIONS})
+    for name in ("BASH_FUNC_%s%%%%", "BASH_FUNC_%s()"):
+        tried(checkout, hostile, {name % each: "() { echo function >> %s; }" % hostile[1] for each in FUNCTIONS})
 
 
 def test_the_module_runs_nothing_either(checkout, hostile):

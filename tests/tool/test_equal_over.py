@@ -1,7 +1,6 @@
 """Groups over several stores are those of the store into which they are merged."""
 import os
 import shutil
-import sqlite3
 import subprocess
 import sys
 
@@ -15,9 +14,9 @@ from naplps_pages.collection.merge import merge
 from naplps_pages.collection.tables import Answered, Terms
 from naplps_pages.collection.store import open_to_read
 from samples import OUTSIDE, POINT, POINT_AND_BELL, SPELLED
-from scans import made_up, scan_parts, tree, written
+from scans import alter, made_up, made_up_parts, scan_parts, tree, written
 
-FORMS = ([], ["--json", "--with", "copies"], ["--csv"], ["--null"])
+FORMS = ([], ["--json", "--skip", "copies"], ["--csv"], ["-0"])
 
 
 def nothing(name, why):
@@ -33,18 +32,16 @@ def same(into, stores):
 
 def test_parts_of_a_scan(run, tmp_path):
     kinds = (POINT, SPELLED, POINT_AND_BELL, OUTSIDE, b"\x0fhello", b"\x0fhello\x0f")
-    pages = tree(os.path.join(str(tmp_path), "pages"), {
+    pages = tree(tmp_path / "pages", {
         "%d/%03d" % (at % 7, at): kinds[at % len(kinds)] + b"\x0f" * (at // 60) for at in range(240)})
     stores = scan_parts(run, pages, tmp_path, 5)
-    into = os.path.join(str(tmp_path), "all.db")
-    assert run(["merge", "--into", into, *stores]).returncode == 0
+    into = str(tmp_path / "all.db")
+    assert run(["scan", "--merge", "-o", into, *stores]).returncode == 0
     same(into, stores)
-    for words in (*FORMS, ["--verify", "--with", "copies"]):
+    for words in (*FORMS, ["--verify"]):
         assert run(["equal", into, *words]).stdout == run(["equal", *stores, *words]).stdout != b""
     for store in stores[1:3]:                                   # (as they are where a scan is stopped)
-        connection = sqlite3.connect(store)
-        connection.executescript("DROP INDEX pages_by_canon; DROP INDEX files_by_page;")
-        connection.close()
+        alter(store, "DROP INDEX pages_by_canon; DROP INDEX files_by_page;")
     same(into, stores)
     tree(pages, {"0/000": b"changed"})
     one, some = run(["equal", into, "--verify"]), run(["equal", *stores, "--verify"])
@@ -52,26 +49,18 @@ def test_parts_of_a_scan(run, tmp_path):
 
 
 def test_made_up_stores(run, tmp_path):
-    stores = [str(tmp_path / ("%d.db" % at)) for at in range(4)]
-    for at, store in enumerate(stores):
-        made_up(store, at * 1500, 1500 + 40 * (at == 0), "%d/4" % at)
-    into = str(tmp_path / "all.db")
-    with sqlite3.connect(stores[0]) as connection:              # (files of the next store, of the same bytes)
-        connection.execute("UPDATE files SET name = CAST('other ' || name AS BLOB) WHERE inode >= 1500")
-    connection.close()
-    assert run(["merge", "--into", into, *stores]).returncode == 0
+    stores, into = made_up_parts(tmp_path, 4, 1500, 40), str(tmp_path / "all.db")
+    # (files of the next store, of the same bytes)
+    alter(stores[0], "UPDATE files SET name = CAST('other ' || name AS BLOB) WHERE inode >= 1500")
+    assert run(["scan", "--merge", "-o", into, *stores]).returncode == 0
     same(into, stores)
 
 
 def test_what_lacks_is_told(run, tmp_path):
-    stores = [str(tmp_path / ("%d.db" % at)) for at in range(3)]
-    for at, store in enumerate(stores):
-        made_up(store, at * 100, 100, "%d/3" % at)
-    with sqlite3.connect(stores[2]) as connection:
-        connection.execute("UPDATE runs SET ended = NULL")
-    connection.close()
+    stores = made_up_parts(tmp_path, 3, 100)
+    alter(stores[2], "UPDATE runs SET ended = NULL")
     into = str(tmp_path / "some.db")
-    assert run(["merge", "--into", into, *stores[1:], "--unfinished"]).returncode == 1
+    assert run(["scan", "--merge", "-o", into, *stores[1:], "--force"]).returncode == 1
     said = run(["equal", *stores[1:]])
     assert (said.stdout, said.returncode) == (run(["equal", into]).stdout, 1)
     assert said.stderr.decode() == (
@@ -121,11 +110,9 @@ def test_stores_that_differ_in_terms_and_answers(tmp_path, stores):
         assert list(sources.groups_over(paths, copies, nothing)) == list(equal.groups(open_to_read(into), copies))
 
 
-@pytest.mark.parametrize("words", [["--null"], []])
+@pytest.mark.parametrize("words", [["-0"], []])
 def test_a_reader_that_ends_early(naplps, tmp_path, words):
-    stores = [str(tmp_path / ("%d.db" % at)) for at in range(2)]
-    for at, store in enumerate(stores):
-        made_up(store, at * 3000, 3000, "%d/2" % at)
+    stores = made_up_parts(tmp_path, 2, 3000)
     said = subprocess.run(["sh", "-c", '"$@" | head -c 10', "sh", COMMAND, "equal", *stores, *words],
                           capture_output=True, env=dict(os.environ, NAPLPS=naplps))
     assert len(said.stdout) == 10 and said.stderr == b""
@@ -138,10 +125,8 @@ sources.CACHE = 256; sys.exit(cli.main(sys.argv[1:], 'naplps-pages'))""" % PACKA
 
 
 def test_no_room_for_temporary_files(tmp_path, small_disk):
-    stores = [str(tmp_path / ("%d.db" % at)) for at in range(2)]
-    for at, store in enumerate(stores):
-        made_up(store, at * 20_000, 20_000, "%d/2" % at)
-    said = subprocess.run([sys.executable, "-Bc", LITTLE, "equal", *stores, "--with", "copies"], capture_output=True,
+    stores = made_up_parts(tmp_path, 2, 20_000)
+    said = subprocess.run([sys.executable, "-Bc", LITTLE, "equal", *stores], capture_output=True,
                           env=dict(os.environ, SQLITE_TMPDIR=small_disk))
     assert (said.stdout, said.returncode) == (b"", 3)
     assert said.stderr.decode() == (

@@ -1,10 +1,9 @@
-"""equal --treated and --guesses: treated copies beside pages that draw the same, marked; and guesses by themselves."""
+"""equal with treated copies, which are marked beside pages that draw the same; and with guesses, by themselves."""
 import csv
 import hashlib
 import io
 import json
 import os
-import sqlite3
 from random import Random
 
 import pytest
@@ -14,7 +13,7 @@ from naplps_pages.collection.store import open_to_read
 from old_files import in_eight_bits, midst
 from pictures import picture
 from samples import OUTSIDE, POINT, with_parity
-from scans import tree
+from scans import alter, store_of
 from stores import earlier
 
 PAGE, OTHER = picture(Random(5), 1), picture(Random(6), 2)
@@ -26,15 +25,13 @@ FILES = {"a": PAGE, "b/copy": PAGE, "c spelled": b"\0" + PAGE, "parity": with_pa
 
 
 @pytest.fixture
-def pages(tmp_path):
-    return tree(os.path.join(str(tmp_path), "pages"), FILES)
+def store(run, tmp_path):
+    return store_of(run, tmp_path, FILES, keeps="repair")
 
 
 @pytest.fixture
-def store(run, tmp_path, pages):
-    store = os.path.join(str(tmp_path), "pages.db")
-    assert run(["scan", pages, "--into", store, "--cures"]).returncode == 0
-    return store
+def pages(store):
+    return os.path.join(os.path.dirname(store), "pages")
 
 
 def groups(said, pages):
@@ -57,16 +54,16 @@ def spelled(group):
 
 
 def test_treated_copies_stand_beside_others(run, store, pages):
-    found = groups(run(["equal", store, "--with", "treated"]), pages)
+    found = groups(run(["equal", store, "--include", "treated"]), pages)
     assert [head for head, _ in found] == ["4 spellings, 6 files, 10 entries", "2 spellings, 2 files, 2 entries"]
     assert spelled(found[0]) == [["a", "b/copy"], ["c spelled"], [
         "end again: treated by tail (around)", "end: treated by tail (around)"], ["parity: treated by parity (around)"]]
     assert spelled(found[1]) == [["hello"], ["hi end: treated by tail (around)"]]
-    assert groups(run(["equal", store, "--with", "treated", "--verify"]), pages) == found
+    assert groups(run(["equal", store, "--include", "treated", "--verify"]), pages) == found
 
 
 def test_guesses_stand_by_themselves(run, store, pages):
-    treated, found = (groups(run(["equal", store, "--with", word]), pages) for word in ("treated", "guesses"))
+    treated, found = (groups(run(["equal", store, "--include", word]), pages) for word in ("treated", "guesses"))
     assert found[:2] == treated
     found[2:] = sorted(found[2:])  # (else by their hashes)
     assert [head for head, _ in found[2:]] == ["2 spellings, 2 files, 10 entries, by guess, the same as 6 other files",
@@ -75,30 +72,30 @@ def test_guesses_stand_by_themselves(run, store, pages):
                                  ["wide: treated by eight-bit (within, a guess)"]]
     assert spelled(found[3]) == [["cancel: treated by can (within, a guess)"],
                                  ["cancelled: treated by can (within, a guess)"]]
-    assert sorted(groups(run(["equal", store, "--with", "guesses", "--verify"]), pages)) == sorted(found)
+    assert sorted(groups(run(["equal", store, "--include", "guesses", "--verify"]), pages)) == sorted(found)
 
 
 def test_one_guess_with_which_others_draw_the_same(run, store, pages):
     os.unlink(os.path.join(pages, "wide end"))
-    assert run(["scan", pages, "--into", store, "--cures"]).returncode == 0
-    found = groups(run(["equal", store, "--with", "guesses"]), pages)
+    assert run(["scan", pages, "-o", store], keeps="repair").returncode == 0
+    words = ["equal", store, "--include", "guesses"]
+    found = groups(run(words), pages)
     assert ("1 spelling, 1 file, 10 entries, by guess, the same as 6 other files", [
         (1, "wide: treated by eight-bit (within, a guess)")]) in found
-    assert groups(run(["equal", store, "--with", "guesses", "--verify"]), pages) == found
+    assert groups(run([*words, "--verify"]), pages) == found
 
 
 def test_copies_of_a_treated_page_alone(run, tmp_path):
-    pages = tree(os.path.join(str(tmp_path), "pages"), {"x": with_parity(POINT), "y": with_parity(POINT)})
-    store = os.path.join(str(tmp_path), "pages.db")
-    assert run(["scan", pages, "--into", store, "--cures"]).returncode == 0
-    assert groups(run(["equal", store, "--with", "treated"]), pages) == []
-    said = run(["equal", store, "--with", "treated", "--with", "copies"])
+    store = store_of(run, tmp_path, {"x": with_parity(POINT), "y": with_parity(POINT)}, keeps="repair")
+    pages = str(tmp_path / "pages")
+    assert groups(run(["equal", store, "--include", "treated", "--skip", "copies"]), pages) == []
+    said = run(["equal", store, "--include", "treated"])
     assert groups(said, pages) == [("1 spelling, 2 files, 1 entry", [
         (1, "x: treated by parity (around)"), (1, "y: treated by parity (around)")])]
 
 
 def test_for_programs(run, store, pages):
-    group, *_ = map(json.loads, run(["equal", store, "--with", "treated", "--json"]).stdout.splitlines())
+    group, *_ = map(json.loads, run(["equal", store, "--include", "treated", "--json"]).stdout.splitlines())
     canon = run(["canon", pages + "/a"]).stdout
     assert group["canonical"] == hashlib.sha256(canon).hexdigest() and "others" not in group
     found = {os.path.basename(file["name"]): {key: value for key, value in each.items() if key != "files"}
@@ -106,34 +103,31 @@ def test_for_programs(run, store, pages):
     own = {name: hashlib.sha256(data).hexdigest() for name, data in FILES.items()}
     assert found["a"] == {"hash": own["a"]} and found["parity"] == {
         "hash": own["parity"], "treatments": "parity", "grade": "around", "copy": own["a"]}
-    rows = list(csv.DictReader(io.StringIO(run(["equal", store, "--with", "guesses", "--csv"]).stdout.decode())))
+    rows = list(csv.DictReader(io.StringIO(run(["equal", store, "--include", "guesses", "--csv"]).stdout.decode())))
     wide, = (row for row in rows if row["name"] == pages + "/wide")
     assert [wide[name] for name in ("hash", "treatments", "grade", "others")] == [
         own["wide"], "eight-bit", "within", "6"]
-    names = run(["equal", store, "--with", "treated", "--null"]).stdout.split(b"\0")
+    names = run(["equal", store, "--include", "treated", "-0"]).stdout.split(b"\0")
     assert os.fsencode(pages) + b"/parity" in names
 
 
 def test_what_is_not_known_is_told(run, store, pages, tmp_path):
-    plain = os.path.join(str(tmp_path), "plain.db")
-    assert run(["scan", pages, "--into", plain]).returncode == 0
-    said = run(["equal", plain, "--with", "treated"])
+    plain = str(tmp_path / "plain.db")
+    assert run(["scan", pages, "-o", plain]).returncode == 0
+    said = run(["equal", plain, "--include", "treated"])
     assert said.stdout == run(["equal", plain]).stdout and said.stderr.decode() == (
-        f"naplps-pages: {plain}: of 8 refused pages no treatments are known: a scan with --cures tries them\n")
-    old = earlier(store, os.path.join(str(tmp_path), "old.db"))
-    said = run(["equal", old, "--with", "treated"])
-    assert said.stderr.decode().endswith("it isn't known what they draw: a scan with --cures finds out\n")
+        f"naplps-pages: {plain}: of 8 refused pages no repairs are known: a scan into a new store tries them\n")
+    old = earlier(store, str(tmp_path / "old.db"))
+    said = run(["equal", old, "--include", "treated"])
+    assert said.stderr.decode().endswith("it isn't known what they draw: a scan into a new store finds out\n")
     assert b"treated by tail" not in said.stdout and b"treated by parity (around)" in said.stdout
-    said = run(["equal", store, plain, "--with", "treated"])
+    said = run(["equal", store, plain, "--include", "treated"])
     assert said.returncode == 3 and b"treated copies are joined in one store" in said.stderr
 
 
 def test_a_copy_that_is_another_now(run, store, pages):
-    connection = sqlite3.connect(store)
-    connection.execute("UPDATE cures SET copy = zeroblob(32) WHERE treatments = 'parity'")
-    connection.commit()
-    connection.close()
-    said = run(["equal", store, "--with", "treated", "--verify"])
+    alter(store, "UPDATE cures SET copy = zeroblob(32) WHERE treatments = 'parity'")
+    said = run(["equal", store, "--include", "treated", "--verify"])
     assert said.returncode == 1 and said.stderr.decode() == (
         f"naplps-pages: {pages}/parity: the treatments make another copy of it than when it was scanned\n")
 

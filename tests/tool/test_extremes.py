@@ -71,9 +71,7 @@ def kept(tmp_path_factory):
 @pytest.mark.parametrize("number", NUMBERS + (-1, -(1 << 63)))
 def test_each_number_in_each_field_of_tar(kept, number):
     for what, data in tars(number):
-        found = kept.read("odd.tar", data)
-        assert found[0][0] == b"", what
-        assert b"first.nap" in [row[0] for row in found], what
+        assert {b"", b"first.nap"} <= {row[0] for row in kept.read("odd.tar", data)}, what
 
 
 @pytest.mark.parametrize("text", [b"%d" % number for number in NUMBERS] + [
@@ -81,8 +79,7 @@ def test_each_number_in_each_field_of_tar(kept, number):
     b" 5 ", b"5\0", b"+5"])
 def test_each_number_of_pax(kept, text):
     for what, data in paxes(text):
-        found = kept.read("odd.tar", data)
-        assert {b"", b"first.nap"} <= {row[0] for row in found}, what
+        assert {b"", b"first.nap"} <= {row[0] for row in kept.read("odd.tar", data)}, what
 
 
 @pytest.mark.parametrize("number", NUMBERS)
@@ -107,37 +104,34 @@ def test_any_number_in_any_field(kept, number, which, packs):
     kept.read("odd." + ending, gzip.compress(data) if packs and ending == "tar" else data)
 
 
-def test_a_scan_of_all_of_them(run, tmp_path):
-    top = os.path.join(str(tmp_path), "packs")
-    store = os.path.join(str(tmp_path), "pages.db")
-    os.mkdir(top)
+@pytest.fixture
+def store(tmp_path):
+    return os.path.join(str(tmp_path), "pages.db")
+
+
+def test_a_scan_of_all_of_them(run, tmp_path, store):
     packs = {}
     for number in (1 << 63, (1 << 64) - 1, (1 << 88) - 1):
         for what, data in [*tars(number), *paxes(b"%d" % number), *zips(number), *gzips(number)]:
             ending = "zip" if what.startswith("zip") else "tgz" if what.startswith("gzip") else "tar"
             packs["%04d.%s" % (len(packs), ending)] = data
-    for name, data in packs.items():
-        written(os.path.join(top, name), data)
-    tree(top, {"page.nap": POINT})
+    top = tree(str(tmp_path / "packs"), {**packs, "page.nap": POINT})
     for _ in range(2):
-        said = run(["scan", top, "--into", store])
-        assert said.returncode == 1 and b"Traceback" not in said.stderr and b"the tool itself" not in said.stderr
+        said = run(["scan", top, "-o", store])
+        assert said.returncode == 3 and b"Traceback" not in said.stderr and b"the tool itself" not in said.stderr
         assert said.stdout.endswith(b"; %d packs\n" % len(packs))
         assert rows(store, "SELECT count(*) FROM folders WHERE substr(path, -2) = x'212F'") == [(len(packs),)]
         assert rows(store, "SELECT count(*) FROM runs WHERE ended IS NULL") == [(0,)]
         assert statuses(store)["page.nap"] == ("accepted", None)
-    for words in (["files"], ["files", "--refused"], ["equal", "--with", "copies", "--verify"]):
+    for words in (["files"], ["files", "--refused"], ["equal", "--verify"]):
         said = run([words[0], store, *words[1:]])
         assert said.returncode in (0, 1) and b"Traceback" not in said.stderr and b"the tool itself" not in said.stderr
 
 
-def test_what_is_said_of_a_size_and_a_place_that_can_not_be_kept(run, tmp_path):
-    top = os.path.join(str(tmp_path), "packs")
-    os.mkdir(top)
-    store = os.path.join(str(tmp_path), "pages.db")
-    written(os.path.join(top, "size.zip"), zip_with(("extra", "size"), 1 << 63))
-    written(os.path.join(top, "place.zip"), zip_with(("extra", "offset"), (1 << 64) - 1))
-    said = run(["scan", top, "--into", store])
+def test_what_is_said_of_a_size_and_a_place_that_can_not_be_kept(run, tmp_path, store):
+    top = tree(str(tmp_path / "packs"), {"size.zip": zip_with(("extra", "size"), 1 << 63),
+                                         "place.zip": zip_with(("extra", "offset"), (1 << 64) - 1)})
+    said = run(["scan", top, "-o", store])
     assert said.stderr.decode() == "naplps-pages: %s/place.zip!odd.nap: it begins outside of the pack\n" % top
     assert statuses(store) == {
         "place.zip!odd.nap": ("unreadable", "it begins outside of the pack"),
@@ -157,30 +151,28 @@ def test_a_number_of_the_program(line):
             read_line(line % number, None)
 
 
-def test_a_program_that_answers_numbers_that_can_not_be_kept(run, fake, tmp_path):
+def test_a_program_that_answers_numbers_that_can_not_be_kept(run, fake, tmp_path, store):
     pages = tree(os.path.join(str(tmp_path), "pages"), {"a": b"a", "b": b"bb", "c": b"bad"})
-    store = os.path.join(str(tmp_path), "pages.db")
     usual = "b'accepted %d entries' % len(page)"
     lines = FAKE.replace(usual, "b'accepted 9999999999999999999 entries' if len(page) == 1 else " + usual)
     assert lines != FAKE
-    said = run(["scan", pages, "--into", store], program=fake(lines))
-    assert (said.returncode, b"Traceback" in said.stderr) == (1, False)
+    said = run(["scan", pages, "-o", store], program=fake(lines))
+    assert (said.returncode, b"Traceback" in said.stderr) == (3, False)
     assert statuses(store) == {"a": ("no answer", "the program answered something that is no answer"),
                                "b": ("accepted", None), "c": ("refused", None)}
 
 
-def test_an_exception_that_nobody_expected_names_the_file(tmp_path, monkeypatch, capfd, naplps):
-    """The status is 3, and no traceback is printed."""
+def test_an_exception_that_nobody_expected_names_the_file(tmp_path, store, monkeypatch, capfd, naplps):
+    """The status is 70, and no traceback is printed."""
     monkeypatch.setenv("NAPLPS", naplps)
     pages = tree(os.path.join(str(tmp_path), "pages"), {"a": POINT, "b": SPELLED})
-    store = os.path.join(str(tmp_path), "pages.db")
 
     def number(row):
         return File(*row)._replace(size=1 << 63) if File(*row).name == b"b" else row
     take = Writer.take
     monkeypatch.setattr(Writer, "take", lambda self, block: take(
         self, block._replace(files=list(map(number, block.files)))))
-    assert main(["scan", pages, "--into", store], COMMAND) == 3
+    assert main(["scan", pages, "-o", store], COMMAND) == 70
     said = capfd.readouterr()
     start = "naplps-pages: %s/b: the tool itself failed (collection/writer.py line " % pages
     assert said.out == "" and said.err.startswith(start)
@@ -188,12 +180,12 @@ def test_an_exception_that_nobody_expected_names_the_file(tmp_path, monkeypatch,
     monkeypatch.undo()
     monkeypatch.setenv("NAPLPS", naplps)
     monkeypatch.setattr("naplps_pages.page_session.Session.print_answer", lambda *_, **__: [][0])
-    assert main(["check", "--json", pages + "/a", pages + "/b"], COMMAND) == 3
+    assert main(["check", "--json", pages + "/a", pages + "/b"], COMMAND) == 70
     said = capfd.readouterr().err.splitlines()
     assert [line.split(": the tool")[0] for line in said] == ["naplps-pages: %s/%s" % (pages, name) for name in "ab"]
     monkeypatch.setattr("naplps_pages.collection.status.status", lambda *_: [][0])
     open_to_write(store).close()
-    assert main(["files", store], COMMAND) == 3
+    assert main(["files", store], COMMAND) == 70
     assert capfd.readouterr().err.startswith("naplps-pages: %s: the tool itself failed (" % store)
 
 

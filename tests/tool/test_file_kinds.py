@@ -18,7 +18,6 @@ import gallery
 import old_files
 from command import LIB, TOP, file
 from naplps.answers import Accepted, Refusal
-from naplps.client import Client
 from naplps.entry import read_line
 from naplps_pages.file_kinds import MAGIC, MOST_LOOKED_AT, kind, looks_like
 from samples import OUTSIDE, POINT, needs_node, with_parity
@@ -55,18 +54,16 @@ def test_a_page_above_16_mib_has_its_kind(run, tmp_path):
         assert kinds(run, tmp_path, name) == [(wanted, None if wanted else "GIF")]
 
 
-def test_pages_of_the_examples_are_pages(run):
+def test_pages_of_the_examples_are_pages_and_look_like_no_other_format(run):
+    assert [looks_like(data[:512], len(data)) for data in gallery.pages().values()] == [None] * len(gallery.pages())
+    assert kind([POINT], Accepted(1)) == "page" and Refusal(1, "EighthBit", None, 0).line == "refused 1 EighthBit at 0"
     names = sorted(name for name, data in gallery.pages().items() if name != "signature.nap")
     assert kinds(run, os.path.join(TOP, "examples", "gallery"), *names) == [("page", None)] * len(names)
 
 
 @given(BYTES)
-def test_text_only_types_moves_clears_and_rings(naplps, data):
-    program = Client(naplps)
-    try:
-        answer = program.ask("list", data)
-    finally:
-        program.close()
+def test_text_only_types_moves_clears_and_rings(program, data):
+    answer = program.ask("list", data)
     if isinstance(answer, Accepted):
         found = kind([data[:1], data[1:]], answer)
         some = [read_line(line) for line in answer.body.decode().splitlines()]
@@ -116,14 +113,12 @@ def test_each_magic_number_is_found_at_its_place(data, magic):
         other.data for other in MAGIC if other.name == found and not other.offset)))
 
 
-@given(st.binary(max_size=300), st.integers(0, 1 << 40))
-def test_any_bytes_have_an_answer(data, length):
+@given(st.binary(max_size=600), st.integers(0, 1 << 40))
+def test_any_bytes_have_an_answer_and_a_text_has_no_control_of_pages(data, length):
     assert looks_like(data, length) is None or isinstance(looks_like(data, length), str)
-
-
-def test_no_page_looks_like_another_format():
-    assert [looks_like(data[:512], len(data)) for data in gallery.pages().values()] == [None] * len(gallery.pages())
-    assert kind([POINT], Accepted(1)) == "page" and Refusal(1, "EighthBit", None, 0).line == "refused 1 EighthBit at 0"
+    told = looks_like(data, len(data))
+    if told and told.startswith("text in ") and not data.startswith((b"\xff\xfe", b"\xfe\xff", b"\xef\xbb\xbf")):
+        assert not set(data.rstrip(b"\x1a")) & {0x0E, 0x0F, 0x19, 0x1B, 0x1D}
 
 
 FRENCH = "L'\u00e9t\u00e9 \u00e0 Montr\u00e9al, caf\u00e9 et th\u00e9\u00e2tre.\r\n" * 5
@@ -150,13 +145,6 @@ def test_texts_and_what_else_a_box_holds(data, wanted):
     assert looks_like(data[:4096], len(data)) == wanted
 
 
-@given(st.binary(max_size=600))
-def test_what_looks_like_a_text_has_no_control_of_pages(data):
-    told = looks_like(data, len(data))
-    if told and told.startswith("text in ") and not data.startswith((b"\xff\xfe", b"\xfe\xff", b"\xef\xbb\xbf")):
-        assert not set(data.rstrip(b"\x1a")) & {0x0E, 0x0F, 0x19, 0x1B, 0x1D}
-
-
 def changed(chance, data):
     """Bytes that are cut, or of which some are others."""
     some = bytearray(data[:chance.randrange(len(data) + 1)] if chance.random() < 0.3 else data)
@@ -176,6 +164,5 @@ def test_the_page_in_a_browser_says_the_same():
                           stdout=subprocess.PIPE, check=True)
     wanted = [looks_like(data[:MOST_LOOKED_AT], len(data)) or "" for data in some]
     assert json.loads(said.stdout) == wanted
-    names = set(wanted)
-    assert names >= {magic.name for magic in MAGIC} | {
+    assert set(wanted) >= {magic.name for magic in MAGIC} | {
         "", "MacBinary", "ARC", "disk of DOS", "text in Latin-1", "text in UTF-8", "text in a code page of DOS"}

@@ -36,7 +36,7 @@ def at(naplps, tmp_path_factory):
 def told(run, at):
     """What the command says with these words, in the folder, on the store."""
     if not os.path.exists(os.path.join(at, "pages.db")):
-        assert run(["scan", "pages", "--into", "pages.db", "--cures"], cwd=at).returncode == 0
+        assert run(["scan", "pages", "-o", "pages.db"], keeps="repair", cwd=at).returncode == 0
 
     def tells(*words, status=0):
         said = run(["files", "pages.db", *words], cwd=at)
@@ -48,7 +48,7 @@ def told(run, at):
 def names(told, *words):
     """The names that are told, below the folder, in their order."""
     top = os.fsencode(os.path.join(told.__closure__[0].cell_contents, "pages")) + b"/"
-    found = told("--null", *words).stdout
+    found = told("-0", *words).stdout
     assert found == b"" or found.endswith(b"\0")
     return [each[len(top):] for each in found.split(b"\0")[:-1]]
 
@@ -96,27 +96,21 @@ def test_nothing_of_a_name_is_raw(told):
         shown + ": refused 10 Outside at 3" for shown in HOSTILE.values())
 
 
+def path_of(row):
+    """The path that a row of JSON or CSV names."""
+    return bytes.fromhex(row["name_hex"]) if row.get("name_hex") else row["name"].encode()
+
+
 def test_json_and_csv_tell_the_same(told):
-    objects = {each["name"]: each for each in map(json.loads, told("--json").stdout.splitlines())}
-    assert len(objects) == len(ALL)
+    objects = {path_of(each): each for each in map(json.loads, told("--json").stdout.splitlines())}
+    assert sorted(path.split(b"/pages/", 1)[1] for path in objects) == ALL
     table = list(csv.DictReader(io.StringIO(told("--csv").stdout.decode(), newline="")))
-    assert list(table[0]) == list(COLUMNS) and len(table) == len(ALL)
-    found = set()
+    assert list(table[0]) == list(COLUMNS)
+    assert {path_of(row) for row in table} == set(objects) and len(table) == len(ALL)
     for row in table:
-        raw = bytes.fromhex(row["name_hex"]) if row["name_hex"] else row["name"].encode()
-        found.add(raw)
-        name = row["name"] if raw == b"\xff" or not _is_utf_8(raw) else raw.decode()
         for column in COLUMNS[2:]:
-            value = objects[name][column]
-            assert row[column] == ("" if value is None else str(value)), (name, column)
-    assert {each.split(b"/pages/", 1)[1] for each in found} == set(ALL)
-
-
-def _is_utf_8(raw):
-    try:
-        return bool(raw.decode("utf-8")) or True
-    except UnicodeDecodeError:
-        return False
+            value = objects[path_of(row)][column]
+            assert row[column] == ("" if value is None else str(value)), (row["name"], column)
 
 
 def test_facts(told):
@@ -133,9 +127,3 @@ def test_facts(told):
     assert (facts["parity"]["treatments"], facts["parity"]["grade"]) == ("parity", "around")
     assert (facts["link"]["status"], facts["link"]["reason"]) == ("not a file", "a symbolic link")
     assert facts["gif"]["looks_like"] == "GIF" and facts["p.tar!in/out"]["place"] == 3
-
-
-@pytest.mark.parametrize("words", [
-    ["--json", "--csv"], ["--null", "--json"], ["--kind"], ["--kind", ""], ["--reason"]])
-def test_wrong_words(told, words):
-    assert told(*words, status=2).returncode == 2

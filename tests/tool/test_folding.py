@@ -7,10 +7,10 @@ import pytest
 from hypothesis import given
 from hypothesis import strategies as st
 
-from command import file
 from naplps_pages.listing import MOST_IN_ROW, folded
 from naplps_pages.report.drawing import shortened
 from reports import held
+from scans import tree
 
 LOOK = "colour=own-start text=0,0/normal/----"
 OTHER = "colour=front:1048576 text=0,0/normal/----"
@@ -66,7 +66,7 @@ PAGE = bytes.fromhex("0E 24 52 40 40 0F") + b'CITY "HALL"' + bytes.fromhex("07 4
 
 
 def test_explain_tells_letters_in_a_row(run):
-    lines = run(["explain", "-"], PAGE).stdout.decode().splitlines()
+    lines = run(["check", "--explain", "-"], PAGE).stdout.decode().splitlines()
     entry = 'CHAR "CITY \\"HALL\\"" x11 pen=4194304,4194304 ' + LOOK
     assert lines[4] == "       6  43 49 54 59 20 22 48 41  characters                 " + entry
     assert lines[5] == "      14  4c 4c 22"
@@ -74,26 +74,19 @@ def test_explain_tells_letters_in_a_row(run):
     assert lines[-1].endswith('REPEAT                     CHAR "AAA" x3 pen=after ' + LOOK)
 
 
-def test_explain_tells_each_letter_where_all_is_asked_for(run):
-    lines = run(["explain", "--full", "-"], PAGE).stdout.decode().splitlines()
-    assert sum("  CHAR primary " in line for line in lines) == 11 + 1 + 3
-    assert "       7  49                       character I                CHAR primary 49 pen=after " + LOOK in lines
-
-
-def test_list_tells_each_entry(run):
+def test_each_letter_is_told_where_all_is_asked_for(run):
+    codes = json.loads(run(["check", "--explain", "--json", "-"], PAGE).stdout)["codes"]
+    assert sum(line.startswith("CHAR primary ") for row in codes for line in row["entries"]) == 11 + 1 + 3
+    assert [row["entries"] for row in codes if row["offset"] == 7] == [["CHAR primary 49 pen=after " + LOOK]]
     assert len(run(["list", "-"], PAGE).stdout.splitlines()) == 11 + 1 + 1 + 3
 
 
 def test_a_report_tells_letters_in_a_row(run, tmp_path):
-    folder, store, html = (os.path.join(str(tmp_path), name) for name in ("pages", "pages.db", "report.html"))
-    os.mkdir(folder)
-    file(folder, "page.nap", PAGE)
-    assert run(["scan", folder, "--into", store]).returncode == 0
+    store, html = (os.path.join(str(tmp_path), name) for name in ("pages.db", "report.html"))
+    assert run(["scan", tree(str(tmp_path / "pages"), {"page.nap": PAGE}), "-o", store]).returncode == 0
     assert run(["report", store, "-o", html]).returncode == 0
     block = held(html)[1][0]
     assert block["counts"] == [[11, 1, 4]] and block["entries"] == [16] and block["first"] == [0]
-    assert run(["report", store, "--full", "--replace", "-o", html]).returncode == 0
-    assert held(html)[1][0]["counts"] == [[1] * 16]
     told = block["lines"][0].split("\n")
     assert told[0] == 'CHAR "CITY\u00a0\\"HALL\\"" x11 pen=4194304,4194304 ' + LOOK and told[1] == "BELL"
 

@@ -6,6 +6,7 @@ import os
 import re
 import subprocess
 import sys
+from pathlib import Path
 
 import pytest
 
@@ -25,8 +26,7 @@ TESTS = [path for name in ("tool", "browser") for path in glob.glob(os.path.join
 
 
 def parsed(path):
-    with open(path, encoding="utf-8") as source:
-        return ast.parse(source.read(), path, feature_version=(3, 9))
+    return ast.parse(Path(path).read_text("utf-8"), path, feature_version=(3, 9))
 
 
 def imported(path):
@@ -52,13 +52,6 @@ def test_the_module_stands_below_the_tool(path):
     assert not [name for name in imported(path) if name.split(".")[0] == "naplps_pages"]
     depth = os.path.relpath(path, MODULE).count(os.sep) + 1
     assert all(node.level <= depth for node in ast.walk(parsed(path)) if isinstance(node, ast.ImportFrom))
-
-
-def test_the_module_is_imported_without_the_tool():
-    lines = ("import sys; sys.path.insert(0, sys.argv[1]); import naplps, naplps.writer\n"
-             "print([name for name in sys.modules if name.startswith('naplps_pages')])")
-    said = subprocess.run([sys.executable, "-B", "-c", lines, PACKAGES], capture_output=True, text=True)
-    assert (said.stdout, said.stderr) == ("[]\n", "")
 
 
 def classes(path):
@@ -172,12 +165,10 @@ SIZE = "with what they need 112 packages, 97.3 MB/98.1 MB to download, 402 MB on
 
 def tools(folder, *words, status=0):
     """What python3 -m dev.tools prints where none of the tools is there, and what it asks apt-get."""
-    with open(os.path.join(TOP, "dev", "tools.py"), encoding="ascii") as source:
-        text = source.read().replace('"/usr/', '"/nowhere/')
+    text = Path(TOP, "dev", "tools.py").read_text("ascii").replace('"/usr/', '"/nowhere/')
     for name, lines in (("tools.py", text), ("apt-get", APT % status)):
         path = os.path.join(str(folder), name)
-        with open(path, "w", encoding="ascii") as made:
-            made.write(lines)
+        Path(path).write_text(lines, "ascii")
         os.chmod(path, 0o755)
     ran = subprocess.run([sys.executable, os.path.join(str(folder), "tools.py"), *words],
                          capture_output=True, text=True,
@@ -212,8 +203,7 @@ def members(value):
 
 
 def test_the_manual_page_names_each_member_of_json():
-    with open(os.path.join(TOP, "man", "naplps-pages.1"), encoding="utf-8") as source:
-        text = source.read()
+    text = Path(TOP, "man", "naplps-pages.1").read_text("utf-8")
     section = text[text.index(".Sh JSON"):text.index(".Sh ENVIRONMENT")]
     names = {name for words in KINDS for name in members(members_of(read_line(sample_line(words)), None))}
     with open(os.path.join(TOOL, "schema.py"), encoding="utf-8") as source:
@@ -225,8 +215,7 @@ def test_the_manual_page_names_each_member_of_json():
 
 def manual_refusals():
     """The text of each refusal and of each code in the manual page, without its marks."""
-    with open(os.path.join(TOP, "man", "naplps.1"), encoding="utf-8") as source:
-        text = source.read()
+    text = Path(TOP, "man", "naplps.1").read_text("utf-8")
     section = text[text.index(".Sh REFUSALS"):text.index(".Sh DIAGNOSTICS")]
     for title, body in re.findall(r"\.It ([^\n]+)\n(.*?)(?=\n\.It |\n\.El)", section, re.DOTALL):
         body = body.replace(".Fl Fl ", "--").replace(" Li ", " ").replace("\\-", "-")

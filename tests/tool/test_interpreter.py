@@ -15,13 +15,15 @@ from samples import POINT
 from scans import start, tree
 
 
-WORDS = [["check", "a.nap"], ["list", "a.nap"], ["canon", "a.nap"], ["explain", "c.nap"], ["look", "a.nap"],
-         ["text", "a.nap"], ["cures", "c.nap"], ["check", "d.tar!e.nap"],
-         ["scan", ".", "--into", "../x.db", "--cures"], ["scan", "a.nap", "--into", "../y.db"],
-         ["equal", "../x.db", "--verify"], ["equal", "../x.db", "--with", "copies"], ["files", "../x.db", "--refused"],
-         ["canon", "../x.db", "--into", "../canonical"], ["files", "../x.db"],
-         ["merge", "--into", "../m.db", "../x.db"],
-         ["report", "../x.db", "-o", "../x.html"]]
+WORDS = [
+    ["check", "a.nap"], ["check", "--explain", "c.nap"], ["check", "."], ["check", "d.tar!e.nap"], ["a.nap"],
+    ["list", "a.nap"], ["canon", "a.nap"], ["show", "a.nap"], ["show", "--format", "png", "a.nap"],
+    ["show", "--format", "html", "a.nap"], ["show", "--format", "text", "a.nap"], ["make", "--from", "a.nap"],
+    ["diff", "a.nap", "a.nap"], ["fix", "c.nap"], ["fix", "--only", "carve", "c.nap"],
+    ["scan", "a.nap", "-o", "../y.db"], ["scan", ".", "-o", "../x.db", "--skip", "words"],
+    ["equal", "../x.db", "--verify"], ["equal", "../x.db"], ["files", "../x.db", "--refused"],
+    ["files", "../x.db"], ["files", "../x.db", "--census"], ["canon", "../x.db", "-o", "../canonical"],
+    ["scan", "--merge", "../x.db", "-o", "../m.db"], ["report", "../x.db", "-o", "../x.html"]]
 
 
 def test_no_command_runs_code_of_the_current_folder(run, naplps, tmp_path):
@@ -30,7 +32,7 @@ def test_no_command_runs_code_of_the_current_folder(run, naplps, tmp_path):
         said = run(words, cwd=folder)
         assert said.returncode in (0, 1) and b"Traceback" not in said.stderr, (words, said)
         assert not os.path.exists(ran), (words, open(ran).read())
-    served = start(["serve", "../x.db", "--port", "0"], naplps, cwd=folder)
+    served = start(["report", "../x.db", "--serve"], naplps, cwd=folder)
     try:
         assert urllib.request.urlopen(served.stdout.readline().decode().strip()).status == 200
     finally:
@@ -43,7 +45,7 @@ def test_no_command_runs_code_of_the_current_folder(run, naplps, tmp_path):
 def test_no_command_runs_code_of_a_folder_that_the_environment_names(run, tmp_path, named):
     """An empty name is the current folder. What Python starts with, as `encodings`, is looked for there too."""
     folder, ran = hostile_folder(tmp_path)
-    for words in (["--version"], ["check", "a.nap"], ["look", "a.nap"], ["scan", ".", "--into", "../x.db"]):
+    for words in (["--version"], ["check", "a.nap"], ["show", "a.nap"], ["scan", ".", "-o", "../x.db"]):
         said = run(words, cwd=folder, env={"PYTHONPATH": named})
         assert said.returncode in (0, 1) and b"Traceback" not in said.stderr, (words, said)
         assert not os.path.exists(ran), (words, open(ran).read())
@@ -80,11 +82,10 @@ def test_only_one_function_starts_interpreters():
 @pytest.mark.parametrize("path", [".:%s", ":%s", "%s:", "../here:%s"])
 def test_no_program_of_the_current_folder_is_run(tmp_path, path):
     """Also where PATH names that folder, or none, which is the same."""
-    here = tree(os.path.join(str(tmp_path), "here"), {"a.nap": POINT, "naplps": b"", "rsvg-convert": b""})
     ran, elsewhere = os.path.join(str(tmp_path), "ran"), os.path.join(str(tmp_path), "elsewhere")
+    evil = b"#!/bin/sh\n>> %s\n" % ran.encode()
+    here = tree(os.path.join(str(tmp_path), "here"), {"a.nap": POINT, "naplps": evil, "rsvg-convert": evil})
     for name in ("naplps", "rsvg-convert"):
-        with open(os.path.join(here, name), "w", encoding="ascii") as file:
-            file.write("#!/bin/sh\n>> %s\n" % ran)
         os.chmod(os.path.join(here, name), 0o755)
     os.mkdir(elsewhere)
     lines = ("import sys; sys.path[0] = %r\nfrom naplps import client\nfrom naplps_pages import pictures\n"

@@ -47,7 +47,8 @@ def of_sources():
     return rows
 
 
-def test_the_table_is_that_of_the_sources():
+def test_the_table_is_that_of_the_sources_and_every_kind_has_an_entry():
+    assert list(MAKERS) == list(KINDS) and {type(read_line(sample_line(words))) for words in KINDS} == set(HELD)
     assert of_sources() == KINDS
     choices = [name for kind in ("CharSet", "CursorKind", "Mask", "TextStep")
                for name, _ in named("crates/nap_make/src/attribute.rt", kind)]
@@ -79,10 +80,6 @@ def test_python_reads_and_writes_lines_by_the_table(words):
     assert str(entry) == sample_line(words) and entry.kind == words.split()[0]
     assert HELD[type(entry)] == tuple(KEYS[sort] for sort in KINDS[words].split() if sort in KEYS)
     assert translating.translate(sample_line(words)).text.decode() == sample_line(words) + "\n"
-
-
-def test_every_kind_has_an_entry():
-    assert list(MAKERS) == list(KINDS) and {type(read_line(sample_line(words))) for words in KINDS} == set(HELD)
 
 
 def form(words):

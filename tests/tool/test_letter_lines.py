@@ -62,11 +62,8 @@ def test_which_letters_go_on(first, more, signs):
     assert "".join(letters_behind([first, *more], 1, len(more) + 1)) == signs
 
 
-def test_letters_go_on_up_to_the_end_that_is_given():
+def test_letters_go_on_up_to_the_end_that_is_given_and_are_taken_together(monkeypatch):
     assert letters_behind([line()] * 9, 4, 6) == ["A", "A"]
-
-
-def test_letters_are_taken_together(monkeypatch):
     drawn = []
     monkeypatch.setattr(Writing, "character", lambda self, entry, real=Writing.character: (
         drawn.append(entry), real(self, entry)))

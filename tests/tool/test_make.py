@@ -1,5 +1,4 @@
 """Pages of lines: entries that print themselves, and what naplps.make answers."""
-import ctypes
 from random import Random
 
 import pytest
@@ -9,11 +8,10 @@ from hypothesis import strategies as st
 import entries
 import naplps as nap
 from fake_programs import BATCH
-from libraries import HEAD, library_path, made_up
+from libraries import HEAD, made_up
 from lines import line_of
-from naplps import backends
 from naplps.answers import NONSENSE, Accepted, Unanswered, WrongLine
-from naplps.backends import LibraryBackend, ProgramBackend
+from naplps.backends import LibraryBackend
 from naplps.client import Client
 from naplps.entry import read_line
 from naplps.kinds import KINDS
@@ -28,17 +26,6 @@ SOME_KIND = st.sampled_from(list(entries.MAKERS))
 CHANCE = st.randoms(use_true_random=False)
 ENTRIES = st.builds(entries.entry, CHANCE, SOME_KIND)
 NAMES = {words.split()[0] for words in KINDS}
-
-
-@pytest.fixture(scope="module", params=["library", "program"])
-def kind(request, naplps):
-    """The module asks the one, and then the other."""
-    if request.param == "library" and not hasattr(ctypes.CDLL(library_path()), "naplps_make"):
-        pytest.skip("not tried: the library has no naplps_make")
-    before = backends._found
-    backends._found = LibraryBackend(library_path()) if request.param == "library" else ProgramBackend(naplps)
-    yield request.param
-    backends._found = before
 
 
 def test_entries_of_all_kinds_are_made_by_chance():
@@ -109,8 +96,7 @@ def test_more_lines_than_a_request_may_have(kind):
     assert len(nap.make(["BELL"] * many)) == many + 3
     with pytest.raises(nap.NotMade, match="line %d: can't come here" % (many + 1)):
         nap.make(["BELL"] * many + ["END"])
-    client = Client("/bin/false")
-    assert isinstance(client.make(b"BELL\n" * many), Unanswered)
+    assert isinstance(Client("/bin/false").make(b"BELL\n" * many), Unanswered)
 
 
 def making(fake, answer):

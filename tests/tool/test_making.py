@@ -6,15 +6,16 @@ import pytest
 
 from command import TOP, file
 from fake_programs import BATCH
+from folders import files_in
 
 NOTICE = b"# two shapes\nRECT-FILLED 0,0 .5,.5 colour=red\nTEXT pen=.1,.1 \"A\"\n"
 LINES = (b"RECT-FILLED 0,0 4194304,4194304 pel=0,0 colour=direct:0,65535,0 texture=0/none\n"
          b"CHAR primary 41 pen=838861,838861 colour=direct:0,65535,0 text=0,0/normal/----\n")
 
 
-def held(path):
-    with open(path, "rb") as opened:
-        return opened.read()
+def answering(line):
+    """A program that does this for each request."""
+    return BATCH + f"for command, budget, page in requests():\n    {line}\n"
 
 
 def test_a_page_is_printed(run, tmp_path):
@@ -23,65 +24,53 @@ def test_a_page_is_printed(run, tmp_path):
     assert run(["list", "-"], said.stdout).stdout == LINES
     assert run(["canon", "-"], said.stdout).stdout == said.stdout
     assert run(["make", "-"], NOTICE).stdout == run(["make", "-"], LINES).stdout == said.stdout
+    assert run(["make", "-"], b"# nothing\n").stdout == bytes.fromhex("0E215F")  # (no line is the empty page)
 
 
-def test_no_line_is_the_empty_page(run):
-    assert run(["make", "-"], b"# nothing\n").stdout == bytes.fromhex("0E215F")
-
-
-def test_only_a_made_page_is_written_to_a_file(run, tmp_path):
-    path, into = file(tmp_path, "notice.txt", NOTICE), str(tmp_path / "a.nap")
-    said = run(["make", path, "-o", into])
+def test_only_a_made_page_is_written_to_a_file(run, tmp_path, to):
+    path, bad = file(tmp_path, "notice.txt", NOTICE), file(tmp_path, "bad.txt", b"LIEN 0,0")
+    page, picture = run(["make", path]).stdout, run(["make", path, "--format", "svg"]).stdout
+    said = run(["make", path, "-o", to])
     assert (said.returncode, said.stdout, said.stderr) == (0, b"", b"")
-    assert held(into) == run(["make", path]).stdout
-    bad, other = file(tmp_path, "bad.txt", b"LIEN 0,0"), str(tmp_path / "b.nap")
-    said = run(["make", bad, "-o", other])
-    assert (said.returncode, said.stdout) == (1, b"") and not os.path.exists(other)
-    assert run(["make", path, "--look", "-o", other]).returncode == 0
-    assert held(other) == run(["make", path, "--look"]).stdout
-    assert run(["make", file(tmp_path, "c.txt", b"BELL"), "-o", into]).returncode == 3 and held(into) != b"BELL"
-    assert run(["make", path, path, "-o", into]).returncode == 2
-    assert run(["make", path, "-o", into, "--into", str(tmp_path)]).returncode == 2
+    said = run(["make", bad, "-o", to + "2"])
+    assert (said.returncode, said.stdout) == (1, b"") and not os.path.exists(to + "2")
+    assert run(["make", path, "--format", "svg", "-o", to + "2"]).returncode == 0
+    assert run(["make", file(tmp_path, "c.txt", b"BELL"), "-o", to]).returncode == 3
+    assert (files_in(tmp_path)[b"to"], files_in(tmp_path)[b"to2"]) == (page, picture)
+    assert picture.startswith(b"<svg") and picture.replace(b"notice.txt", b"to") == run(["show", to]).stdout
+    assert run(["make", path, path, "-o", to]).stderr.endswith(b"/to: Not a directory\n")
 
 
-def test_a_picture_is_printed_in_its_place(run, tmp_path):
-    path = file(tmp_path, "notice.txt", NOTICE)
-    page = file(tmp_path, "notice.nap", run(["make", path]).stdout)
-    said = run(["make", path, "--look"])
-    assert said.stdout == run(["look", page]).stdout and said.stdout.startswith(b"<svg")
-
-
-def test_pages_and_pictures_are_put_into_a_folder(run, tmp_path):
+def test_pages_and_pictures_are_put_into_a_folder(run, tmp_path, to):
     os.makedirs(tmp_path / "in" / "a.b")
     names = [file(tmp_path / "in", "notice.txt", NOTICE), file(tmp_path / "in" / "a.b", "other", b"BELL")]
-    into = str(tmp_path / "out")
-    said = run(["make", *names, "--into", into, "--look"])
+    said = run(["make", *names, "-o", to, "--format", "svg"])
     assert (said.returncode, said.stdout, said.stderr) == (0, b"", b"")
-    assert sorted(os.listdir(into)) == ["a.b", "notice.nap", "notice.nap.svg"]
-    assert sorted(os.listdir(os.path.join(into, "a.b"))) == ["other.nap", "other.nap.svg"]
-    assert held(os.path.join(into, "notice.nap")) == run(["make", names[0]]).stdout
-    assert held(os.path.join(into, "notice.nap.svg")) == run(["make", names[0], "--look"]).stdout
-    assert run(["make", "-", "--into", into], b"BELL").returncode == 0
-    assert held(os.path.join(into, "page.nap")) == bytes.fromhex("0E215F07")
+    assert run(["make", "-", "-o", to], b"BELL").returncode == 0
+    made = files_in(to)
+    assert sorted(made) == [
+        b"a.b/other.nap", b"a.b/other.nap.svg", b"notice.nap", b"notice.nap.svg", b"page.nap"]
+    assert made[b"notice.nap"] == run(["make", names[0]]).stdout
+    assert made[b"notice.nap.svg"] == run(["make", names[0], "--format", "svg"]).stdout
+    assert made[b"page.nap"] == bytes.fromhex("0E215F07")
 
 
 def test_no_file_is_overwritten(run, tmp_path):
-    path, into = file(tmp_path, "notice.txt", NOTICE), str(tmp_path)
+    words = ["make", file(tmp_path, "notice.txt", NOTICE), "-o", str(tmp_path)]
     mine = file(tmp_path, "notice.nap", b"mine")
-    said = run(["make", path, "--into", into])
-    assert said.returncode == 3 and held(mine) == b"mine"
+    said = run(words)
+    assert said.returncode == 3 and files_in(tmp_path)[b"notice.nap"] == b"mine"
     assert said.stderr.endswith(b"notice.nap: is there already with other bytes, and isn't written over\n")
     os.unlink(mine)
-    assert run(["make", path, "--into", into]).returncode == run(["make", path, "--into", into]).returncode == 0
+    assert run(words).returncode == run(words).returncode == 0
 
 
-def test_what_is_wrong_with_one_source_holds_up_no_other(run, tmp_path):
+def test_what_is_wrong_with_one_source_holds_up_no_other(run, tmp_path, to):
     names = [file(tmp_path, name, data) for name, data in (
         ("a.txt", b"BELL\nLIEN 0,0\n  MASK E"), ("b.txt", NOTICE), ("c.txt", b"BELL\n   END"), ("d.txt", b"GLYPH 41"))]
     names.insert(1, str(tmp_path / "none.txt"))
-    into = str(tmp_path / "out")
-    said = run(["make", *names, "--into", into, "--look"])
-    assert said.returncode == 3 and sorted(os.listdir(into)) == ["b.nap", "b.nap.svg"]
+    said = run(["make", *names, "-o", to, "--format", "svg"])
+    assert said.returncode == 3 and sorted(os.listdir(to)) == ["b.nap", "b.nap.svg"]
     a, none, c, d = (names[at] for at in (0, 1, 3, 4))
     assert said.stderr.decode() == (
         f"{a}:2:1: expected what a line begins with, as LINE, not 'LIEN'\n"
@@ -92,21 +81,15 @@ def test_what_is_wrong_with_one_source_holds_up_no_other(run, tmp_path):
     assert run(["make", a]).returncode == run(["make", c]).returncode == 1 and run(["make", c]).stdout == b""
 
 
-def test_the_column_of_a_letter(run):
-    said = run(["make", "-"], b'CLEAR\n\nTEXT "A"\nTEXT pen=start "AB"')
-    assert said.stderr == b"-:4:17: can't come here: pen=start doesn't stand here, pen=after does\n"
-
-
-def test_the_end_of_a_definition_is_told_where_it_begins(run):
-    said = run(["make", "-"], b"# \nTEXT \"AB\"\n MASK A\n\nTEXT \"C\"\nBELL\n")
-    assert said.stderr == b"-:3:2: expected END for the definition that begins here\n"
-
-
-def test_names_and_words_are_shown_without_harm(run, tmp_path):
-    path = file(tmp_path, "a\nb\x1b[2J.txt", "LINE \u202e".encode())
-    said = run(["make", path])
-    assert said.stderr.decode().endswith("a\\nb\\x1b[2J.txt:1:6: expected a point x,y, each from 0 to 8388607 or a "
-                                         "fraction from 0.0 to 1.0, not '\\u202e'\n")
+@pytest.mark.parametrize("source, told", [
+    (b'CLEAR\n\nTEXT "A"\nTEXT pen=start "AB"', "4:17: can't come here: pen=start doesn't stand here, pen=after does"),
+    (b"# \nTEXT \"AB\"\n MASK A\n\nTEXT \"C\"\nBELL\n", "3:2: expected END for the definition that begins here"),
+    ("LINE \u202e".encode(), "1:6: expected a point x,y, each from 0 to 8388607 or a fraction from 0.0 to 1.0, not "
+                             "'\\u202e'")])
+def test_where_a_source_is_wrong_is_told_without_harm(run, tmp_path, source, told):
+    assert run(["make", "-"], source).stderr.decode() == f"-:{told}\n"
+    said = run(["make", file(tmp_path, "a\nb\x1b[2J.txt", source)])
+    assert said.stderr.decode().endswith(f"/a\\nb\\x1b[2J.txt:{told}\n")
 
 
 def test_many_mistakes(run):
@@ -117,9 +100,8 @@ def test_many_mistakes(run):
 
 def test_wrong_words(run, tmp_path):
     path = file(tmp_path, "notice.txt", NOTICE)
-    assert b"several pages need --into FOLDER" in run(["make", path, path]).stderr
-    for words in (["make"], ["make", "-", "-", "--into", "x"], ["make", path, "--budget", "5"],
-                  ["make", path, "--json"]):
+    assert b"several pages need -o FOLDER" in run(["make", path, path]).stderr
+    for words in (["make"], ["make", "-", "-", "-o", "x"], ["make", path, "--json"]):
         assert run(words).returncode == 2
 
 
@@ -139,37 +121,30 @@ def test_a_full_disk(run, small_disk):
     with open(os.path.join(small_disk, "filled"), "wb") as filled:
         filled.write(bytes(2000 << 10))
     many = b"TEXT \"" + b"A" * 60000 + b"\"\n"
-    said = run(["make", "-", "--into", small_disk], many * 2)
+    said = run(["make", "-", "-o", small_disk], many * 2)
     assert said.returncode == 3 and b"No space left on device" in said.stderr
     assert os.listdir(small_disk) == ["filled"]
 
 
-@pytest.mark.parametrize("answer, told", [
-    ("answer(b'line 9: can\\'t come here')", "something that is no answer"), ("answer(b'no memory')", "no memory"),
-    ("sys.exit(4)", "status 4"), ("answer(b'refused 1 EighthBit at 0')", "something that is no answer")])
-def test_programs_that_fail(run, fake, answer, told):
-    said = run(["make", "-"], NOTICE, fake(BATCH + f"for command, budget, page in requests():\n    {answer}\n"))
-    assert said.returncode == 3 and said.stdout == b"" and told in said.stderr.decode()
+@pytest.mark.parametrize("lines, told", [
+    (answering("answer(b'line 9: can\\'t come here')"), "something that is no answer"),
+    (answering("answer(b'no memory')"), "no memory"), (answering("sys.exit(4)"), "status 4"),
+    (answering("answer(b'refused 1 EighthBit at 0')"), "something that is no answer"),
+    (answering("answer(b'line 2: no line of a list, at column 7')"),
+     "-:3:17: the program doesn't take the line that this makes, 'CHAR "),
+    ("sys.stderr.write('request fault\\n')\nsys.exit(3)\n", "the program ended with status 3: request fault"),
+    ("sys.stderr.write('error: no command make\\n')\nsys.exit(2)\n",
+     "the program ended with status 2: error: no command make")])
+def test_programs_that_fail_or_have_no_make(run, fake, lines, told):
+    said = run(["make", "-"], NOTICE, fake(lines))
+    assert said.returncode == (1 if told.startswith("-:") else 3)
+    assert said.stdout == b"" and told in said.stderr.decode()
 
 
-def test_a_line_that_the_program_does_not_take(run, fake):
-    answer = "answer(b'line 2: no line of a list, at column 7')"
-    said = run(["make", "-"], NOTICE, fake(BATCH + f"for command, budget, page in requests():\n    {answer}\n"))
-    assert said.returncode == 1 and b"-:3:17: the program doesn't take the line that this makes, 'CHAR " in said.stderr
-
-
-def test_a_program_without_make(run, fake):
-    said = run(["make", "-"], NOTICE, fake("sys.stderr.write('request fault\\n')\nsys.exit(3)\n"))
-    assert said.returncode == 3 and b"the program ended with status 3: request fault" in said.stderr
-    said = run(["make", "-"], NOTICE, fake("sys.stderr.write('error: no command make\\n')\nsys.exit(2)\n"))
-    assert said.returncode == 3 and b"the program ended with status 2: error: no command make" in said.stderr
-
-
-def test_a_page_whose_picture_has_no_answer(run, fake, tmp_path):
-    lines = "for command, budget, page in requests():\n    if command == 'make': answer(b'accepted 2 entries', b'AB')\n"
-    program = fake(BATCH + lines + "    else: sys.exit(4)\n")
-    said = run(["make", "-", "--into", str(tmp_path / "out"), "--look"], NOTICE, program)
-    assert said.returncode == 3 and os.listdir(str(tmp_path / "out")) == ["page.nap"] and b"status 4" in said.stderr
+def test_a_page_whose_picture_has_no_answer(run, fake, to):
+    lines = answering("answer(b'accepted 2 entries', b'AB') if command == 'make' else sys.exit(4)")
+    said = run(["make", "-", "-o", to + "/", "--format", "svg"], NOTICE, fake(lines))
+    assert said.returncode == 3 and b"status 4" in said.stderr and os.listdir(to) == ["page.nap"]
 
 
 def test_lists_of_the_gallery_are_sources(run):

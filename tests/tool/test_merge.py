@@ -4,7 +4,6 @@ import re
 import shlex
 import shutil
 import signal
-import sqlite3
 import subprocess
 import sys
 
@@ -15,23 +14,25 @@ from naplps_pages.collection import tables
 from naplps_pages.collection.store_files import Lock
 from naplps_pages.collection.tables import Answered, Terms
 from scans import (
-    FAKE, NO_STORE, children, count, every_table, is_sound, made_up, rows, start, statuses, tree, wait_until, written,
+    FAKE, FOLDER_NO_STORE, NO_STORE, alter, children, count, every_table, is_sound, made_up, made_up_parts, rows, start,
+    statuses, tree,
+    wait_until, written,
 )
 
-NOT_MADE = "isn't made; with --unfinished it is, of what is there"
+NOT_MADE = "isn't made; with --force it is, of what is there"
 
 
 @pytest.fixture
 def here(tmp_path, monkeypatch):
     """An empty folder, which is the current one."""
-    folder = os.path.join(str(tmp_path), "here")
+    folder = str(tmp_path / "here")
     os.mkdir(folder)
     monkeypatch.chdir(folder)
     return folder
 
 
 def scan(run, program, folder, store, *words):
-    said = run(["scan", folder, "--into", store, *words], program=program)
+    said = run(["scan", folder, "-o", store, *words], program=program)
     assert said.stderr == b"" and said.returncode == 0
     return said
 
@@ -48,7 +49,7 @@ def contents():
 def refused(run, words, *lines):
     """A merge that makes nothing, with what it tells."""
     before = contents()
-    said = run(["merge", "--into", *words])
+    said = run(["scan", "--merge", "-o", *words])
     assert (told(said), said.stdout, said.returncode) == (list(lines), b"", 3)
     assert contents() == before
 
@@ -67,7 +68,7 @@ def test_stores_that_differ(run, fake, here):
             "all.db: isn't made: 2 pages with two answers under one budget and version")
     # (another budget, or another version, may answer differently: then what was asked last counts)
     scan(run, fake(FAKE.replace("b'bad'", "b'goo'").replace("9.9", "9.8")), "two", "newer.db")
-    said = run(["merge", "--into", "all.db", "newer.db", "one.db"])
+    said = run(["scan", "--merge", "-o", "all.db", "newer.db", "one.db"])
     assert (said.returncode, said.stderr) == (0, b"")
     assert said.stdout in (b"8 files: 6 accepted (6 texts), 2 refused; from 2 stores\n",)
     assert statuses("all.db")["good"] == statuses("all.db")["copy"]
@@ -82,7 +83,7 @@ def test_answers_are_compared_with_all_of_their_version(run, here):
             "0.db: /0/page: accepted 5 entries, canonical {0}; 2.db: /2/page: accepted 7 entries, canonical {0}, "
             "of the same bytes".format(own.hex()), "all.db: isn't made: 1 page with two answers under one budget and "
             "version")
-    assert run(["merge", "--into", "all.db", "1.db", "0.db"]).returncode == 0
+    assert run(["scan", "--merge", "-o", "all.db", "1.db", "0.db"]).returncode == 0
     assert rows("all.db", "SELECT name, entries FROM listing ORDER BY 1") == [("/0/page", 6), ("/1/page", 6)]
     assert rows("all.db", "SELECT id, began, files, asked FROM runs") == [(1, "0", 1, 0), (2, "1", 1, 1)]
 
@@ -92,7 +93,7 @@ def test_many_differences(run, fake, here):
     shutil.copytree("one", "two")
     scan(run, fake(FAKE), "one", "one.db")
     scan(run, fake(FAKE.replace("10 Outside", "12 Other")), "two", "two.db")
-    said = run(["merge", "--into", "all.db", "one.db", "two.db"])
+    said = run(["scan", "--merge", "-o", "all.db", "one.db", "two.db"])
     assert said.returncode == 3 and len(told(said)) == 11
     assert all("refused 10 Outside at 0; two.db: " in line for line in told(said)[:10])
     assert told(said)[-1] == "all.db: isn't made: 30 pages with two answers under one budget and version"
@@ -104,10 +105,10 @@ def test_an_answer_counts_more_than_none(run, fake, here):
     tree("one", {"dies": b"die", "fine": b"fine"})
     tree("two", {"copy": b"die"})
     scan(run, program, "one", "one.db")
-    said = run(["scan", "two", "--into", "two.db"], program=dies)
-    assert said.returncode == 1 and statuses("two.db")["copy"][0] == "no answer"
+    said = run(["scan", "two", "-o", "two.db"], program=dies)
+    assert said.returncode == 3 and statuses("two.db")["copy"][0] == "no answer"
     for name, words in (("a.db", ["one.db", "two.db"]), ("b.db", ["two.db", "one.db"])):
-        said = run(["merge", "--into", name, *words])
+        said = run(["scan", "--merge", "-o", name, *words])
         assert (said.returncode, said.stdout) == (0, b"3 files: 3 accepted (3 texts), 0 refused; from 2 stores\n")
         assert statuses(name)["copy"] == statuses(name)["dies"] == ("accepted", None)
 
@@ -118,10 +119,10 @@ def test_unfinished_parts(run, fake, here):
     if page and 'slow' in sys.argv[0]: time.sleep(0.8)
 """))
     slow = shutil.copy(program, os.path.join(os.path.dirname(program), "slow"))
-    work = start(["scan", "pages", "--into", "0.db", "--part", "0/2", "--processes", "1"], slow)
+    work = start(["scan", "pages", "-o", "0.db", "--shard", "0/2", "-j", "1"], slow)
     wait_until(lambda: count("0.db") > 0, work)
-    scan(run, program, "pages", "1.db", "--part", "1/2")
-    said = run(["merge", "--into", "all.db", "0.db", "1.db"])
+    scan(run, program, "pages", "1.db", "--shard", "1/2")
+    said = run(["scan", "--merge", "-o", "all.db", "0.db", "1.db"])
     assert (told(said), said.returncode) == (["0.db: isn't finished: its scan is at work", "all.db: " + NOT_MADE], 3)
     workers = children(work.pid)
     for number, pids in ((signal.SIGSTOP, workers), (signal.SIGKILL, [work.pid]), (signal.SIGKILL, workers)):
@@ -132,9 +133,9 @@ def test_unfinished_parts(run, fake, here):
     stopped = "0.db: isn't finished: its scan was stopped, and the same command goes on"
     before = contents()
     assert "0.db-wal" in before
-    said = run(["merge", "--into", "all.db", "0.db", "1.db"])
+    said = run(["scan", "--merge", "-o", "all.db", "0.db", "1.db"])
     assert (told(said), said.returncode) == ([stopped, "all.db: " + NOT_MADE], 3)
-    said = run(["merge", "--into", "all.db", "0.db", "1.db", "--unfinished"])
+    said = run(["scan", "--merge", "-o", "all.db", "0.db", "1.db", "--force"])
     assert (told(said), said.returncode) == ([stopped], 1)
     assert {name: before[name] for name in before if not name.endswith("-shm")} == {
         name: data for name, data in contents().items() if name in before and not name.endswith("-shm")}
@@ -145,32 +146,32 @@ def test_unfinished_parts(run, fake, here):
     assert b", was stopped: the same command goes on\n" in state and state.endswith(b"what the scan hasn't reached\n")
     # (the whole continues from there, and so does the part)
     assert b"; %d known" % met in scan(run, program, "pages", "all.db").stdout
-    scan(run, program, "pages", "0.db", "--part", "0/2")
-    assert run(["merge", "--into", "both.db", "0.db", "1.db"]).stdout == (
+    scan(run, program, "pages", "0.db", "--shard", "0/2")
+    assert run(["scan", "--merge", "-o", "both.db", "0.db", "1.db"]).stdout == (
         b"400 files: 400 accepted (400 texts), 0 refused; from 2 stores\n")
 
 
 def test_a_folder_that_was_not_there(run, fake, here):
     tree("pages", {"%d" % number: b"%d" % number for number in range(10)})
-    scan(run, fake(FAKE), "pages", "0.db", "--part", "0/2")
-    scan(run, fake(FAKE), "pages", "1.db", "--part", "1/2")
+    scan(run, fake(FAKE), "pages", "0.db", "--shard", "0/2")
+    scan(run, fake(FAKE), "pages", "1.db", "--shard", "1/2")
     os.rename("pages", "away")
-    assert run(["scan", "pages", "--into", "1.db", "--part", "1/2"], program=fake(FAKE)).returncode == 1
+    assert run(["scan", "pages", "-o", "1.db", "--shard", "1/2"], program=fake(FAKE)).returncode == 3
     lack = "1.db: isn't finished: its scan couldn't read %s/pages: No such file or directory" % here
     refused(run, ["all.db", "0.db", "1.db"], lack, "all.db: " + NOT_MADE)
     os.rename("away", "pages")
-    scan(run, fake(FAKE), "pages", "1.db", "--part", "1/2")
-    assert run(["merge", "--into", "all.db", "0.db", "1.db"]).stdout == (
+    scan(run, fake(FAKE), "pages", "1.db", "--shard", "1/2")
+    assert run(["scan", "--merge", "-o", "all.db", "0.db", "1.db"]).stdout == (
         b"10 files: 10 accepted (10 texts), 0 refused; from 2 stores\n")
 
 
 def test_parts_that_lack(run, fake, here):
     tree("pages", {"%d" % number: b"%d" % number for number in range(40)})
     for number in (0, 3):
-        scan(run, fake(FAKE), "pages", "%d.db" % number, "--part", "%d/9" % number)
+        scan(run, fake(FAKE), "pages", "%d.db" % number, "--shard", "%d/9" % number)
     lack = "0.db: parts 1/9, 2/9, 4/9, 5/9, 6/9 and 2 more of %s/pages aren't among the stores" % here
     refused(run, ["all.db", "0.db", "3.db"], lack, "all.db: " + NOT_MADE)
-    said = run(["merge", "--into", "all.db", "0.db", "3.db", "--unfinished"])
+    said = run(["scan", "--merge", "-o", "all.db", "0.db", "3.db", "--force"])
     assert (told(said), said.returncode) == ([lack], 1)
     assert b"left:            what the scan hasn't reached" in run(["files", "all.db"]).stdout
 
@@ -179,8 +180,8 @@ def test_stores_that_may_have_the_same_files(run, fake, here):
     tree("pages", {"a/b": b"b", "c": b"c"})
     program = fake(FAKE)
     for store, folder, words in (("whole.db", "pages", []), ("again.db", "pages", []), ("a.db", "pages/a", []),
-                                 ("0.db", "pages", ["--part", "0/2"]), ("1.db", "pages", ["--part", "1/2"]),
-                                 ("third.db", "pages", ["--part", "1/3"])):
+                                 ("0.db", "pages", ["--shard", "0/2"]), ("1.db", "pages", ["--shard", "1/2"]),
+                                 ("third.db", "pages", ["--shard", "1/3"])):
         scan(run, program, folder, store, *words)
     shutil.copy("0.db", "copy.db")
     for one, other, folder in (("whole.db", "again.db", "pages"), ("whole.db", "a.db", "pages/a"),
@@ -188,7 +189,7 @@ def test_stores_that_may_have_the_same_files(run, fake, here):
                                ("whole.db", "0.db", "pages"), ("1.db", "1.db", "pages")):
         refused(run, ["all.db", one, other],
                 "%s: may hold the same files as %s, of %s/%s" % (other, one, here, folder))
-        said = run(["equal", one, other])
+        said = run(["equal", one, other, "--skip", "copies"])
         assert (said.returncode, said.stdout) == (3, b"") and b" may hold the same files as " in said.stderr
 
 
@@ -198,9 +199,9 @@ def test_stores_of_folders_that_stand_apart(run, fake, here):
     program = fake(FAKE)
     scan(run, program, "one", "1.db")
     scan(run, program, "one more", "2.db")
-    assert run(["merge", "--into", "all.db", "1.db", "2.db"]).stdout == (
+    assert run(["scan", "--merge", "-o", "all.db", "1.db", "2.db"]).stdout == (
         b"4 files: 2 accepted (2 texts), 2 refused; from 2 stores\n")
-    run(["scan", "one", "one more", "--into", "both.db"], program=program)
+    run(["scan", "one", "one more", "-o", "both.db"], program=program)
     assert every_table("all.db") == every_table("both.db")
 
 
@@ -221,69 +222,46 @@ def test_an_existing_file_is_not_written_over(run, here, kind):
 def test_what_is_no_store(run, here):
     made_up("part.db", 0, 20)
     made_up("other.db", 0, 20)
-    with sqlite3.connect("other.db") as connection:
-        connection.execute("UPDATE meta SET value = 4 WHERE key = 'schema'")
-    connection.close()
-    connection = sqlite3.connect("foreign.db")
-    connection.execute("CREATE TABLE other(x)")
-    connection.close()
+    alter("other.db", "UPDATE meta SET value = 4 WHERE key = 'schema'")
+    alter("foreign.db", "CREATE TABLE other(x)")
     tree(".", {"text.db": b"what is this?" * 100, "short.db": open("part.db", "rb").read()[:5000]})
     os.mkdir("folder.db")
     for name, reason in (("other.db", "is a store of schema 4, and this tool knows schemas 2 and 3"),
                          ("foreign.db", "is a database of something else, and no store of naplps-pages"),
                          ("text.db", NO_STORE), ("short.db", "database disk image is malformed"),
-                         ("folder.db", "isn't a file"), ("none.db", "No such file or directory")):
+                         ("folder.db", FOLDER_NO_STORE), ("none.db", "No such file or directory")):
         refused(run, ["all.db", "part.db", name], "%s: %s" % (name, reason))
-        said = run(["equal", "part.db", name])
+        said = run(["equal", "part.db", name, "--skip", "copies"])
         assert (told(said), said.stdout, said.returncode) == (["%s: %s" % (name, reason)], b"", 3)
     refused(run, ["no/all.db", "part.db"], "no/all.db: No such file or directory")
 
 
 def test_a_store_into_which_nothing_was_scanned(run, here):
     made_up("part.db", 0, 20)
-    with sqlite3.connect("part.db") as connection:
-        connection.executescript("DELETE FROM runs; DELETE FROM files; DELETE FROM pages; DELETE FROM roots; "
-                                 "DELETE FROM folders; DELETE FROM terms")
-    connection.close()
+    alter("part.db", "DELETE FROM runs; DELETE FROM files; DELETE FROM pages; DELETE FROM roots; DELETE FROM folders; "
+                     "DELETE FROM terms")
     refused(run, ["all.db", "part.db"], "part.db: nothing was scanned into it", "all.db: " + NOT_MADE)
-    said = run(["merge", "--into", "all.db", "part.db", "--unfinished"])
+    said = run(["scan", "--merge", "-o", "all.db", "part.db", "--force"])
     assert (said.stdout, said.returncode) == (b"0 files: 0 accepted, 0 refused; from 1 store\n", 1)
-    assert run(["equal", "part.db", "all.db"]).stdout == b""
-
-
-@pytest.mark.parametrize("words", [[], ["all.db"], ["--unfinished", "all.db"], ["all.db", "part.db", "--json"]])
-def test_wrong_words(run, here, words):
-    said = run(["merge", *words])
-    assert said.returncode == 2 and not said.stdout and said.stderr and os.listdir(".") == []
-
-
-def parts(number, each):
-    for at in range(number):
-        made_up("%d.db" % at, at * each, each, "%d/%d" % (at, number))
-    return ["%d.db" % at for at in range(number)]
+    assert run(["equal", "part.db", "all.db", "--skip", "copies"]).stdout == b""
 
 
 @pytest.fixture(scope="module")
 def kept(tmp_path_factory):
-    """A folder with two parts that take a while."""
-    folder = str(tmp_path_factory.mktemp("kept"))
-    for at in range(2):
-        made_up(os.path.join(folder, "%d.db" % at), at * 20_000, 20_000, "%d/2" % at)
-    return folder
+    """Two parts that take a while."""
+    return made_up_parts(tmp_path_factory.mktemp("kept"), 2, 20_000)
 
 
 @pytest.fixture
 def large(kept, here):
     """Two parts that take a while, in the current folder."""
-    for name in ("0.db", "1.db"):
-        shutil.copy(os.path.join(kept, name), name)
-    return ["0.db", "1.db"]
+    return [os.path.basename(shutil.copy(each, here)) for each in kept]
 
 
 @pytest.mark.parametrize("number", [signal.SIGKILL, signal.SIGTERM, signal.SIGINT])
 def test_a_merge_that_is_ended_amid(naplps, run, large, number):
     before = contents()
-    merge = start(["merge", "--into", "all.db", *large], naplps)
+    merge = start(["scan", "--merge", "-o", "all.db", *large], naplps)
     wait_until(lambda: os.path.exists("all.db.new") and os.path.getsize("all.db.new") > 100_000, merge)
     merge.send_signal(number)
     assert merge.communicate() == (b"", b"") and merge.returncode == -number
@@ -291,16 +269,16 @@ def test_a_merge_that_is_ended_amid(naplps, run, large, number):
     assert {name: after[name] for name in before} == before and "all.db" not in after
     if number != signal.SIGKILL:
         assert after == before
-    said = run(["merge", "--into", "all.db", *large])
+    said = run(["scan", "--merge", "-o", "all.db", *large])
     assert (said.stdout, said.returncode) == ((
         b"40000 files: 40000 accepted (40000 pages), 0 refused; from 2 stores\n"), 0)
     assert is_sound("all.db") and {*contents()} == {*before, "all.db"}
 
 
 def test_a_full_disk(run, here, small_disk):
-    some = parts(2, 5000)
+    some = made_up_parts(".", 2, 5000)
     into = os.path.join(small_disk, "all.db")
-    said = run(["merge", "--into", into, *some])
+    said = run(["scan", "--merge", "-o", into, *some])
     assert (told(said), said.returncode) == (["%s: database or disk is full" % into], 3)
     assert os.listdir(small_disk) == []
 
@@ -312,10 +290,10 @@ def test_one_at_a_time(run, here):
 
 
 def test_parts_that_may_only_be_read(run, here):
-    some = parts(2, 100)
+    some = made_up_parts(".", 2, 100)
     for name in some:
         os.chmod(name, 0o444)
-    assert run(["merge", "--into", "all.db", *some]).returncode == 0
+    assert run(["scan", "--merge", "-o", "all.db", *some]).returncode == 0
     assert sorted(os.listdir(".")) == ["0.db", "1.db", "all.db"]
 
 
@@ -327,7 +305,7 @@ TELLING = ("from naplps_pages.__main__ import run; from naplps_pages.collection 
 def test_progress_on_a_terminal(naplps, large):
     if not shutil.which("script"):
         pytest.skip("there is no command script")
-    words = [sys.executable, "-c", TELLING, "merge", "--into", "all.db", *large]
+    words = [sys.executable, "-c", TELLING, "scan", "--merge", "-o", "all.db", *large]
     said = subprocess.run(["script", "-qec", " ".join(map(shlex.quote, words)), "/dev/null"], capture_output=True,
                           env=dict(os.environ, NAPLPS=naplps, PYTHONPATH=PACKAGES))
     told_of = re.findall(rb"\r\x1b\[K([0-9]+) of 9 MiB, [0-9,]+ a second", said.stdout)
@@ -337,7 +315,8 @@ def test_progress_on_a_terminal(naplps, large):
 
 
 def test_more_stores_than_files_may_be_open(naplps, here):
-    some = parts(60, 5)
-    said = subprocess.run(["sh", "-c", 'ulimit -S -n 40; exec "$@"', "sh", COMMAND, "merge", "--into", "all.db", *some],
+    some = made_up_parts(".", 60, 5)
+    merge = [COMMAND, "scan", "--merge", *some, "-o", "all.db"]
+    said = subprocess.run(["sh", "-c", 'ulimit -S -n 40; exec "$@"', "sh", *merge],
                           capture_output=True, env=dict(os.environ, NAPLPS=naplps))
     assert (said.stdout, said.stderr) == (b"300 files: 300 accepted (300 pages), 0 refused; from 60 stores\n", b"")

@@ -6,7 +6,6 @@ import pickle
 import re
 import subprocess
 import sys
-import threading
 
 import pytest
 from hypothesis import given, settings
@@ -16,10 +15,8 @@ import naplps as nap
 from command import PACKAGES, TOP
 from libraries import library_path
 from lines import line_of
-from naplps import backends
 from naplps.answers import Accepted
-from naplps.client import Client
-from naplps.backends import FIRST, LibraryBackend, ProgramBackend
+from naplps.backends import FIRST
 from samples import MACRO, OUTSIDE, POINT, POINT_AND_BELL, POINT_LINE, SPELLED
 from strategies import pages
 
@@ -32,23 +29,6 @@ MIB = 1 << 20
 # Each has a list that is longer than the first buffer; the second is refused after it.
 LONG = POINT * 2000
 LONG_REFUSED = LONG + OUTSIDE
-
-
-@pytest.fixture(scope="module", params=["library", "program"])
-def kind(request, naplps):
-    """The module asks the one, and then the other."""
-    before = backends._found
-    backends._found = LibraryBackend(library_path()) if request.param == "library" else ProgramBackend(naplps)
-    yield request.param
-    backends._found = before
-
-
-@pytest.fixture(scope="module")
-def client(naplps):
-    """The program, asked without the module."""
-    program = Client(naplps)
-    yield program
-    program.close()
 
 
 def refusal(call, *words):
@@ -70,20 +50,12 @@ def test_known_answers(kind):
     assert nap.places(POINT_AND_BELL) == ([(5, point), (5, nap.Bell())], None)
 
 
-def examples():
-    """The programs of docs/LIBRARY.md, and what they print."""
-    path = os.path.join(TOP, "docs", "LIBRARY.md")
-    if not os.path.isfile(path):
-        return []
-    with open(path, encoding="utf-8") as document:
-        return re.findall(r"^```python\n((?:(?!```).*\n)+)```\n\nprints\n\n((?:    .*\n)+)", document.read(), re.M)
-
-
 def test_the_programs_of_the_document(kind, naplps):
+    """The programs of docs/LIBRARY.md, and what they print."""
     told = {"NAPLPS": naplps, "NAPLPS_LIBRARY": library_path() if kind == "library" else "", "PYTHONPATH": PACKAGES}
-    programs = examples()
-    if not programs:
-        pytest.skip("not tried: docs/LIBRARY.md has no program in Python")
+    text = pathlib.Path(TOP, "docs", "LIBRARY.md").read_text("utf-8")
+    programs = re.findall(r"^```python\n((?:(?!```).*\n)+)```\n\nprints\n\n((?:    .*\n)+)", text, re.MULTILINE)
+    assert programs
     for lines, printed in programs:
         words = [sys.executable, "-B", "-c", lines]
         said = subprocess.run(words, env={**os.environ, **told}, capture_output=True, text=True)
@@ -112,10 +84,10 @@ def test_empty_pages_and_nuls(kind):
     assert nap.canon(page) == CANON and [place for place, _ in nap.places(page).entries] == [6]
 
 
-def test_a_mebibyte(kind, client):
+def test_a_mebibyte(kind, program):
     page = b"\x0e" + b"&R@@" * (MIB // 4)
     assert nap.check(page) == MIB // 4 and len(nap.canon(page)) > FIRST
-    assert nap.canon(page) == client.ask("canon", page).body
+    assert nap.canon(page) == program.ask("canon", page).body
 
 
 def test_a_page_that_is_no_request_of_batch(kind):
@@ -129,9 +101,9 @@ def test_a_page_that_is_no_request_of_batch(kind):
         assert nap.places(page) == ([(0, nap.Bell())], None)
 
 
-def test_a_text_that_is_longer_than_the_first_room(kind, client):
+def test_a_text_that_is_longer_than_the_first_room(kind, program):
     for page in (LONG, LONG_REFUSED):
-        told, wanted = nap.places(page), client.ask("places", page)
+        told, wanted = nap.places(page), program.ask("places", page)
         assert len(wanted.body) > FIRST
         rows = "".join("%d %s\n" % (place, line_of(entry)) for place, entry in told.entries)
         assert rows.encode() == wanted.body
@@ -219,9 +191,7 @@ def test_a_refusal_of_a_piece_stays(kind):
 def test_checkers_that_are_dropped(kind):
     for _ in range(2000):
         nap.Checker().feed(MACRO)
-    kept = nap.Checker()
-    kept.feed(MACRO)
-    assert kept.finish() == 1
+    assert counted([MACRO]) == 1
 
 
 def test_vectors(kind):
@@ -242,7 +212,7 @@ def test_vectors(kind):
     assert tried > 3000
 
 
-def test_vectors_by_what_the_library_alone_has(kind):
+def test_vectors_and_rows_by_what_the_library_alone_has(kind):
     if kind == "program":
         for call in (nap.is_plain, nap.canon_form1):
             with pytest.raises(nap.NeedsLibrary, match="it takes the library libnaplps.so.0$"):
@@ -255,11 +225,6 @@ def test_vectors_by_what_the_library_alone_has(kind):
             assert nap.canon_form1(vector.data, vector.budget) == wanted, vector.place
         else:
             assert refusal(nap.canon_form1, vector.data, vector.budget) == vector.ending, vector.place
-
-
-def test_rows_by_what_the_library_alone_has(kind):
-    if kind == "program":
-        return
     rows = rows_of(pathlib.Path(TOP, "crates", "nap_rows", "data"))
     for row in rows:
         assert row.plain in (None, nap.is_plain(row.stream)), row.place
@@ -278,9 +243,9 @@ def damaged(draw):
 
 @settings(max_examples=200)
 @given(st.one_of(pages(), damaged(), st.binary(max_size=80)), st.sampled_from((0, 7, nap.USUAL_BUDGET)))
-def test_pages_by_chance(kind, client, page, budget):
-    client.budget = budget
-    check, listed, canon, placed = (client.ask(call, page) for call in ("check", "list", "canon", "places"))
+def test_pages_by_chance(kind, program, page, budget):
+    program.budget = budget
+    check, listed, canon, placed = (program.ask(call, page) for call in ("check", "list", "canon", "places"))
     told = nap.places(page, budget)
     rows = "".join("%d %s\n" % (place, line_of(entry)) for place, entry in told.entries)
     assert rows.encode() == placed.body
@@ -290,23 +255,6 @@ def test_pages_by_chance(kind, client, page, budget):
     else:
         for call in (nap.check, nap.entries, nap.canon):
             assert refusal(call, page, budget) == str(told.refused) == check.line
-
-
-def test_four_threads(kind):
-    wanted = {page: (nap.canon(page), nap.lines(page)) for page in (POINT, MACRO, LONG, b"\x07" * 999, POINT_AND_BELL)}
-    wrong = []
-
-    def work(first):
-        for at in range(150):
-            page = list(wanted)[(first + at) % len(wanted)]
-            if (nap.canon(page), nap.lines(page)) != wanted[page] or refusal(nap.check, OUTSIDE) is None:
-                wrong.append(page)
-    threads = [threading.Thread(target=work, args=(first,)) for first in range(4)]
-    for thread in threads:
-        thread.start()
-    for thread in threads:
-        thread.join()
-    assert not wrong
 
 
 def test_a_fork_asks_by_itself(kind):

@@ -49,24 +49,22 @@ def test_the_library_under_the_same_prefix(bare, tmp_path):
     assert nap.backend() == ("library", path) and nap.check(POINT) == 1
 
 
-def test_the_program_where_there_is_no_library(bare, naplps):
+def test_the_program_where_there_is_no_library(bare, tmp_path, naplps):
     assert nap.backend() == ("program", naplps) and nap.check(POINT) == 1
     bare.setattr(backends, "_found", None)
     bare.setattr(backends, "SONAME", SONAME)
     bare.setenv("NAPLPS_LIBRARY", "")
     assert nap.backend() == ("program", naplps)
-
-
-def test_the_program_under_the_same_prefix(bare, tmp_path, naplps):
-    os.makedirs(str(tmp_path / "bin"))
-    os.makedirs(str(tmp_path / "lib" / "naplps"))
+    for name in ("bin", "lib/naplps"):
+        os.makedirs(str(tmp_path / name))
     file(tmp_path / "bin", "naplps-pages", b"")
     os.symlink(naplps, str(tmp_path / "bin" / "naplps"))
     bare.delenv("NAPLPS")
+    bare.setattr(backends, "_found", None)
     assert nap.backend() == ("program", str(tmp_path / "bin" / "naplps")) and nap.check(POINT) == 1
 
 
-def test_neither_is_there(bare, tmp_path):
+def test_neither_is_there_and_it_looks_again(bare, tmp_path, naplps):
     bare.setenv("NAPLPS", str(tmp_path / "nothing"))
     for call in CALLS:
         assert str(why(call, POINT)) == (
@@ -74,13 +72,7 @@ def test_neither_is_there(bare, tmp_path):
             "no program: %s" % (tmp_path / "nothing"))
     bare.setenv("NAPLPS_LIBRARY", "")
     assert "NAPLPS_LIBRARY is empty, and NAPLPS names no program" in str(why(nap.is_plain, POINT))
-    with pytest.raises(nap.Unavailable):
-        nap.backend()
-
-
-def test_it_looks_again_where_nothing_was_found(bare, tmp_path, naplps):
-    bare.setenv("NAPLPS", str(tmp_path / "nothing"))
-    why(nap.check, POINT)
+    why(nap.backend)
     bare.setenv("NAPLPS", naplps)
     assert nap.check(POINT) == 1
 
@@ -108,37 +100,29 @@ def test_a_library_of_another_version(bare, tmp_path, name):
     assert str(error) == "%s isn't the library of this version: %s: undefined symbol: naplps_%s" % (path, path, name)
 
 
-@pytest.mark.parametrize("answer, reason", [
-    ("7, 0, 0, 0", "its answer has the status 7"), ("3, 0, 0, 0", "its answer has the status 3"),
-    ("0, 0, 0, 1ull << 40", "its answer is longer than its room")])
-def test_a_library_that_answers_nonsense(tmp_path, answer, reason):
+@pytest.mark.parametrize("answer, error, reason", [
+    ("7, 0, 0, 0", nap.WrongLibrary, "its answer has the status 7"),
+    ("3, 0, 0, 0", nap.WrongLibrary, "its answer has the status 3"),
+    ("0, 0, 0, 1ull << 40", nap.WrongLibrary, "its answer is longer than its room"),
+    ("2, 0, 0, 1ull << 62", nap.NoMemory, "^there is no memory for an answer of 4611686018427387904 bytes")])
+def test_a_library_that_answers_nonsense(tmp_path, answer, error, reason):
     library = LibraryBackend(made_up(str(tmp_path), answer))
-    with pytest.raises(nap.WrongLibrary, match=reason + "$"):
+    with pytest.raises(error, match=reason + "$"):
         library.answer("canon", POINT, 0)
 
 
-def test_a_library_without_memory(bare, tmp_path):
-    bare.setenv("NAPLPS_LIBRARY", made_up(str(tmp_path), '1, 21, 3, 0, "Memory"'))
+@pytest.mark.parametrize("by, answer", [
+    ("program", "no memory"), ("program", "refused 21 Memory at 0"), ("library", "refused 21 Memory at 3")])
+def test_want_of_memory(bare, fake, tmp_path, by, answer):
+    if by == "library":
+        bare.setenv("NAPLPS_LIBRARY", made_up(str(tmp_path), '1, 21, 3, 0, "Memory"'))
+    else:
+        bare.setenv("NAPLPS", fake(BATCH + "for each in requests(): answer(b'%s')" % answer))
     for call in CALLS:
-        with pytest.raises(MemoryError) as caught:
+        with pytest.raises(MemoryError, match=f"^the {by} had no memory for it") as caught:
             call(POINT)
         assert isinstance(caught.value, nap.NoMemory) and not isinstance(caught.value, nap.Refused)
-        assert str(caught.value) == "the library had no memory for it (refused 21 Memory at 3)"
-
-
-def test_an_answer_that_has_no_room(tmp_path):
-    library = LibraryBackend(made_up(str(tmp_path), "2, 0, 0, 1ull << 62"))
-    with pytest.raises(nap.NoMemory, match="^there is no memory for an answer of 4611686018427387904 bytes$"):
-        library.answer("canon", POINT, 0)
-
-
-@pytest.mark.parametrize("line", ["no memory", "refused 21 Memory at 0"])
-def test_a_program_without_memory(bare, fake, line):
-    bare.setenv("NAPLPS", fake(BATCH + "for each in requests(): answer(b'%s')" % line))
-    for call in CALLS:
-        with pytest.raises(MemoryError, match="^the program had no memory for it") as caught:
-            call(POINT)
-        assert isinstance(caught.value, nap.NoMemory)
+        assert by == "program" or str(caught.value) == f"the library had no memory for it ({answer})"
 
 
 @pytest.mark.parametrize("lines, reason", [
@@ -159,9 +143,8 @@ def test_entries_that_are_none(bare, fake):
 
 
 def test_the_page_behind_a_failure_has_its_answer(bare, fake):
-    lines = BATCH + ("for command, budget, page in requests():\n    if page == b'bad': sys.exit(1)\n"
-                     "    answer(b'accepted 7 entries')")
-    bare.setenv("NAPLPS", fake(lines))
+    bare.setenv("NAPLPS", fake(BATCH + "for command, budget, page in requests():\n    if page == b'bad': sys.exit(1)\n"
+                                       "    answer(b'accepted 7 entries')"))
     assert nap.check(b"good") == 7
     with pytest.raises(nap.NoAnswer):
         nap.check(b"bad")

@@ -11,15 +11,11 @@ from samples import POINT_AND_BELL
 
 # Each is a member of a class above bytes or bytearray that says something else than there is.
 LIES = {
-    "long": "def __len__(self): return 1 << 40",
-    "longer": "def __len__(self): return 4096",
-    "short": "def __len__(self): return 1",
-    "empty": "def __len__(self): return 0",
+    "long": "def __len__(self): return 1 << 40", "longer": "def __len__(self): return 4096",
+    "short": "def __len__(self): return 1", "empty": "def __len__(self): return 0",
     "no length": "def __len__(self): raise ZeroDivisionError",
-    "no truth": "def __bool__(self): raise ZeroDivisionError",
-    "other bytes": "def __bytes__(self): return b'x' * 100",
-    "other items": "def __getitem__(self, at): return 0",
-    "other order": "def __iter__(self): return iter(b'xyz')",
+    "no truth": "def __bool__(self): raise ZeroDivisionError", "other bytes": "def __bytes__(self): return b'x' * 100",
+    "other items": "def __getitem__(self, at): return 0", "other order": "def __iter__(self): return iter(b'xyz')",
     "other buffer": "def __buffer__(self, flags): return memoryview(b'xyz' * 99)",
     "other sum": "def __radd__(self, left): return b'xyz'\n    def __add__(self, right): return b'xyz'",
     "other class": "@property\n    def __class__(self): return memoryview",

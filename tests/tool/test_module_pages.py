@@ -6,9 +6,6 @@ from hypothesis import given, settings
 
 import naplps as nap
 from command import TOP, file
-from libraries import library_path
-from naplps import backends
-from naplps.backends import LibraryBackend, ProgramBackend
 from naplps.entry import members_of, read_line
 from naplps.limits import MOST_LISTED
 from naplps.writer import blocks, star
@@ -20,21 +17,7 @@ from stream_writer import StreamWriter
 GALLERY = os.path.join(TOP, "examples", "gallery")
 
 
-@pytest.fixture(scope="module", params=["library", "program"])
-def kind(request, naplps):
-    """The module asks the one, and then the other."""
-    before = backends._found
-    backends._found = LibraryBackend(library_path()) if request.param == "library" else ProgramBackend(naplps)
-    yield request.param
-    backends._found = before
-
-
-def test_the_version():
-    with open(os.path.join(TOP, "VERSION"), encoding="ascii") as version:
-        assert nap.__version__ == version.read().strip()
-
-
-def test_sketches_are_those_of_look(kind):
+def test_sketches_are_those_of_show(kind):
     for name in sorted(os.listdir(GALLERY)):
         if name.endswith(".nap") and name != "signature.nap":
             with open(os.path.join(GALLERY, name), "rb") as page, open(
@@ -49,7 +32,7 @@ def test_a_page_with_too_many_entries_has_a_sketch_that_says_so(kind):
 
 def test_texts_are_those_of_the_command(kind, run, tmp_path):
     for page in (b"", POINT, logo(), StreamWriter().domain().at(0.1, 0.5, "ONE").at(0.1, 0.4, "TWO").made()):
-        said = run(["text", file(tmp_path, "page", page)]).stdout.decode("utf-8")
+        said = run(["show", "--format", "text", file(tmp_path, "page", page)]).stdout.decode("utf-8")
         text = nap.text(page)
         assert said == (text + "\n" if text else "")
     assert nap.text(StreamWriter().accent("acute", "e").text("st").made()) == "ést"

@@ -8,19 +8,12 @@ import pytest
 
 import naplps as nap
 from command import PACKAGES
-from libraries import SLOW, library_path, made_up
+from libraries import SLOW, made_up
 from naplps import backends
-from naplps.backends import LibraryBackend, ProgramBackend
-from samples import POINT
+from naplps.backends import LibraryBackend
+from samples import MACRO, OUTSIDE, POINT, POINT_AND_BELL
 
 BUSY = "another thread is in this Checker"
-
-
-@pytest.fixture(params=["library", "program"])
-def kind(request, naplps, monkeypatch):
-    """What answers."""
-    found = LibraryBackend(library_path()) if request.param == "library" else ProgramBackend(naplps)
-    monkeypatch.setattr(backends, "_found", found)
 
 
 @pytest.fixture
@@ -58,7 +51,9 @@ def test_one_thread_at_a_time_feeds(slow):
     came = by_threads(8, lambda: checker.feed(POINT))
     assert came.count(None) >= 1 and all(each is None or is_busy(each) for each in came)
     assert any(map(is_busy, came))
-    checker.feed(POINT)
+    with pytest.raises(TypeError):
+        checker.feed("text")
+    checker.feed(POINT)  # (a piece of no kind is no call that another one could come upon)
     assert checker.finish() == 7
 
 
@@ -67,13 +62,6 @@ def test_one_thread_at_a_time_finishes(slow):
     came = by_threads(8, checker.finish)
     ended = [each for each in came if isinstance(each, ValueError) and str(each) == "the page has ended"]
     assert came.count(7) == 1 and len(ended) + sum(map(is_busy, came)) == 7
-
-
-def test_a_piece_of_no_kind_is_no_call(slow):
-    checker = nap.Checker()
-    with pytest.raises(TypeError):
-        checker.feed("text")
-    checker.feed(POINT)
 
 
 LEFT = """import os, sys, threading, time
@@ -110,3 +98,15 @@ def test_many_threads_feed_many_pages(kind):
     checkers = [nap.Checker() for _ in range(300)]
     fed = by_threads(8, work)
     assert sum(checker.finish() for checker in checkers) == 50 * sum(fed) and min(fed) >= 0
+
+
+def test_four_threads_ask(kind):
+    pages = (POINT, MACRO, POINT * 2000, b"\x07" * 999, POINT_AND_BELL) * 30
+    wanted = {page: (nap.canon(page), nap.lines(page)) for page in pages}
+
+    def work():
+        for page in pages:
+            assert (nap.canon(page), nap.lines(page)) == wanted[page]
+            with pytest.raises(nap.Refused):
+                nap.check(OUTSIDE)
+    assert by_threads(4, work) == [None] * 4

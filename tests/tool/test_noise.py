@@ -5,7 +5,6 @@ from random import Random
 import pytest
 
 from naplps.answers import Accepted, Refusal
-from naplps.client import Client
 from naplps.treating.treatments import MOST_ASKED, TREATMENTS, TreatmentSearch, treated, untreated
 from naplps_pages import codes
 from naplps_pages.file_kinds import kind, last_beginning, looks_like
@@ -22,38 +21,31 @@ def noise(seed):
     """Bytes by chance: of all values, of those of seven bits, of the codes, or of one code alone."""
     chance = Random(seed)
     length = chance.choice((0, 1, 2, 50, 1000, LENGTH))
-    made = (lambda: chance.randbytes(length), lambda: bytes(byte & 0x7F for byte in chance.randbytes(length)),
+    return (lambda: chance.randbytes(length), lambda: bytes(byte & 0x7F for byte in chance.randbytes(length)),
             lambda: b"".join(chance.choice(PARTS) for _ in range(length // 3)),
             lambda: chance.choice(PARTS) * (length // 2))[seed % 4]()
-    return made
 
 
 @pytest.mark.parametrize("seed", range(48))
-def test_every_treatment_and_the_census_end(naplps, seed):
+def test_every_treatment_and_the_census_end(program, seed):
     data, began = noise(seed), time.process_time()
-    program = Client(naplps)
-    try:
-        answer = program.ask("check", data)
-        asked = []
+    answer, asked = program.ask("check", data), []
 
-        def ask(command, copy):
-            asked.append(command)
-            return program.ask(command, copy)
-        if isinstance(answer, Refusal):
-            for name in TREATMENTS:
-                for each in treated(untreated(data), answer.place, (name,)):
-                    assert len(each.data) <= 2 * len(data) + 2
-            search = TreatmentSearch(ask)
-            cure = search.find(data, answer.place)
-            assert len(asked) <= 2 * MOST_ASKED and (cure is None or isinstance(ask("check", cure.data), Accepted))
-            names = codes.stops(data, answer)
-            assert names and len(names) <= codes.MOST_AFTER_REFUSAL + 2
-            looks_like(data, len(data))
-        else:
-            assert isinstance(answer, Accepted)
-            assert kind((data,), answer) in ("page", "text", "blank") and last_beginning(data) < max(len(data), 1)
-    finally:
-        program.close()
+    def ask(command, copy):
+        asked.append(command)
+        return program.ask(command, copy)
+    if isinstance(answer, Refusal):
+        for name in TREATMENTS:
+            for each in treated(untreated(data), answer.place, (name,)):
+                assert len(each.data) <= 2 * len(data) + 2
+        cure = TreatmentSearch(ask).find(data, answer.place)
+        assert len(asked) <= 2 * MOST_ASKED and (cure is None or isinstance(ask("check", cure.data), Accepted))
+        names = codes.stops(data, answer)
+        assert names and len(names) <= codes.MOST_AFTER_REFUSAL + 2
+        looks_like(data, len(data))
+    else:
+        assert isinstance(answer, Accepted)
+        assert kind((data,), answer) in ("page", "text", "blank") and last_beginning(data) < max(len(data), 1)
     assert time.process_time() - began < MOST_SECONDS
 
 

@@ -48,9 +48,9 @@ def packs(tmp_path_factory):
 
 def scanned(python, naplps, top, store):
     """What a scan under this Python says, and the tables of its store."""
-    said = subprocess.run([python, "-ES", COMMAND, "scan", top, "--into", store, "--cures", "--words"],
-                          capture_output=True, env=dict(os.environ, NAPLPS=naplps))
-    assert said.returncode == 1 and b"Traceback" not in said.stderr, said
+    said = subprocess.run([python, "-ES", COMMAND, "scan", top, "-o", store], capture_output=True,
+                          env=dict(os.environ, NAPLPS=naplps))
+    assert said.returncode == 3 and b"Traceback" not in said.stderr, said
     return sorted(said.stderr.splitlines()), every_table(store)
 
 

@@ -7,6 +7,8 @@ import stat
 import struct
 import subprocess
 import sys
+from contextlib import nullcontext
+from pathlib import Path
 
 import pytest
 
@@ -34,15 +36,14 @@ def open_folder(run_as_nobody, tmp_path):
         for name in below + names + [""]:
             os.chown(os.path.join(top, name), NOBODY, NOBODY)
     os.chmod(pages, 0o700)
-    said = run_as_nobody("scan", pages, "--into", "s.db", "--words", cwd=folder)
+    said = run_as_nobody("scan", pages, "-o", "s.db", "--skip", "repair", cwd=folder)
     assert said.returncode == 0, said.stderr
     return folder, pages
 
 
 def of_stranger(path, data=b"", mode=0o666):
     """A file of the stranger."""
-    with open(path, "wb") as file:
-        file.write(data)
+    Path(path).write_bytes(data)
     os.chown(path, STRANGER, STRANGER)
     os.chmod(path, mode)
 
@@ -63,8 +64,7 @@ def logged(path):
     """A log that has all pages of a database."""
     connection = sqlite3.connect(path, isolation_level=None)
     connection.executescript("PRAGMA journal_mode = WAL; VACUUM")
-    with open(path + "-wal", "rb") as file:
-        data = file.read()
+    data = Path(path + "-wal").read_bytes()
     connection.close()
     return data
 
@@ -75,19 +75,16 @@ def test_no_file_of_a_stranger_replaces_a_store(open_folder, run_as_nobody, tmp_
     """His journal or his log has the pages of a store of his."""
     folder, _ = open_folder
     other = str(tmp_path / "other.db")
-    tree(str(tmp_path / "others"), {"forged.nap": b"\x0e\x26\x52\x40\x40"})
-    assert run(["scan", str(tmp_path / "others"), "--into", other]).returncode == 0
-    with open(other, "rb") as file:
-        data = rewriting(file.read())
-    of_stranger(os.path.join(folder, "s.db" + ending), data if ending == JOURNAL else logged(other))
-    with open(os.path.join(folder, "s.db"), "rb") as file:
-        before = file.read()
-    for command in (["files", "s.db"], ["find", "hello", "s.db"], ["scan", str(tmp_path / "pages"), "--into", "s.db"],
-                    ["merge", "s.db", "--into", "m.db"], ["equal", "s.db", "s.db"]):
+    tree(tmp_path / "others", {"forged.nap": b"\x0e\x26\x52\x40\x40"})
+    assert run(["scan", str(tmp_path / "others"), "-o", other]).returncode == 0
+    data = rewriting(Path(other).read_bytes()) if ending == JOURNAL else logged(other)
+    of_stranger(os.path.join(folder, "s.db" + ending), data)
+    before = Path(folder, "s.db").read_bytes()
+    for command in (["files", "s.db"], ["find", "hello", "s.db"], ["scan", str(tmp_path / "pages"), "-o", "s.db"],
+                    ["scan", "--merge", "s.db", "-o", "m.db"], ["equal", "s.db", "s.db"]):
         said = run_as_nobody(*command, cwd=folder)
         assert (said.returncode, said.stdout, said.stderr.decode()) == (3, b"", OF_OTHER % ("s.db", ending)), command
-    with open(os.path.join(folder, "s.db"), "rb") as file:
-        assert file.read() == before
+    assert Path(folder, "s.db").read_bytes() == before
     os.unlink(os.path.join(folder, "s.db" + ending))
     assert b"forged" not in run_as_nobody("files", "s.db", "--kind", "any", cwd=folder).stdout
 
@@ -99,8 +96,8 @@ def test_an_empty_file_of_a_stranger_gets_no_words(open_folder, run_as_nobody, n
     folder, pages = open_folder
     path = os.path.join(folder, name + ending)
     of_stranger(path)
-    for command in (["scan", pages, "--into", name, "--words"], ["merge", "s.db", "--into", name]):
-        if command[0] == "merge" and name == "s.db":
+    for command in (["scan", pages, "-o", name, "--skip", "repair"], ["scan", "--merge", "s.db", "-o", name]):
+        if "--merge" in command and name == "s.db":
             continue
         said = run_as_nobody(*command, cwd=folder)
         assert (said.returncode, said.stderr.decode()) == (3, OF_OTHER % (name, ending)), command
@@ -114,7 +111,7 @@ def test_an_empty_store_of_a_stranger_gets_no_words(open_folder, run_as_nobody):
     folder, pages = open_folder
     path = os.path.join(folder, "new.db")
     of_stranger(path)
-    said = run_as_nobody("scan", pages, "--into", "new.db", "--words", cwd=folder)
+    said = run_as_nobody("scan", pages, "-o", "new.db", "--skip", "repair", cwd=folder)
     assert (said.returncode, said.stderr) == (3, b"naplps-pages: new.db: is empty, and another user's\n")
     assert os.path.getsize(path) == 0
 
@@ -134,16 +131,11 @@ def test_who_may_write_a_store_may_have_a_file_beside_it(tmp_path, ending, mode,
     open_to_write(store).close()
     os.chown(store, NOBODY, group)
     os.chmod(store, mode)
-    with open(store + ending, "wb"):
-        pass
+    Path(store + ending).touch()
     os.chown(store + ending, owner, group)
-    try:
+    why = "^the file beside it with the ending %s is another user's$" % ending
+    with nullcontext() if is_taken else pytest.raises(OSError, match=why):
         require_own(store, ending)
-        taken = True
-    except OSError as error:
-        taken = False
-        assert str(error) == "the file beside it with the ending %s is another user's" % ending
-    assert taken == is_taken
 
 
 def test_a_new_store_is_private_before_sqlite_opens_it(tmp_path, monkeypatch):
@@ -168,17 +160,26 @@ def test_the_modes_of_new_stores(run, tmp_path):
     """One without words of pages has 0644, as SQLite makes its files, as far as the mask allows that."""
     pages = archive(str(tmp_path))
     modes = {}
+
+    def mode_after(*words, keeps=""):
+        said = run([*words], keeps=keeps)
+        assert said.returncode == 0, said.stderr
+        return stat.S_IMODE(os.stat(words[words.index("-o") + 1]).st_mode)
     before = os.umask(0o002)
     try:
-        for name, words in (("none", ()), ("words", ("--words",)), ("near", ("--near",)), ("looks", ("--pictures",))):
+        for name, words in (("none", ()), ("words", ()), ("near", ("--near",)), ("looks", ("--pictures",))):
             path = str(tmp_path / name)
-            for command in (["scan", pages, "--into", path, *words], ["merge", path, "--into", path + " merged"]):
-                said = run(command)
-                assert said.returncode == 0, said.stderr
-            modes[name] = [stat.S_IMODE(os.stat(each).st_mode) for each in (path, path + " merged")]
+            modes[name] = [mode_after("scan", pages, "-o", path, *words, keeps=name),
+                           mode_after("scan", "--merge", path, "-o", path + " merged")]
+        # (who lets others read it is heard)
+        scan = ("scan", pages, "-o", str(tmp_path / "none"), "--near")
+        modes["near later"] = mode_after(*scan)
+        os.chmod(tmp_path / "none", 0o644)
+        modes["heard"] = mode_after(*scan)
     finally:
         os.umask(before)
-    assert modes == {"none": [0o644] * 2, "words": [0o600] * 2, "near": [0o600] * 2, "looks": [0o644] * 2}
+    assert modes == {"none": [0o644] * 2, "words": [0o600] * 2, "near": [0o600] * 2, "looks": [0o644] * 2,
+                     "near later": 0o600, "heard": 0o644}
 
 
 @pytest.mark.parametrize("kind", ["a link", "a file", "a link to nothing"])
@@ -189,8 +190,7 @@ def test_the_mode_of_no_other_file_is_changed(tmp_path, kind):
     os.chmod(path, 0o644)
     os.rename(path, str(tmp_path / "moved.db"))
     if kind != "a link to nothing":
-        with open(key, "w", encoding="ascii") as file:
-            file.write("secret")
+        Path(key).write_bytes(b"secret")
         os.chmod(key, 0o640)
     (os.rename if kind == "a file" else os.symlink)(key, path)
     with pytest.raises(OSError):

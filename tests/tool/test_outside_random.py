@@ -14,9 +14,10 @@ from shell_variables import FUNCTIONS, variables
 
 TEXTS = ("", ":", ".", "..", "/", "@", "@/evil", ":@", "-", "--help", "\x1b]0;x\x07", "é", "\udcff", "x" * 5000, "1",
          "0", "() { :; }", "$(touch @/ran)", "`touch @/ran`", "noexec", "*", "~", "C", "en_US.UTF-8")
-WORDS = (["check", "a.nap"], ["list", "--json", "a.nap"], ["canon", "a.nap"], ["explain", "c.nap"], ["look", "a.nap"],
-         ["text", "a.nap"], ["census", "c.nap"], ["cures", "c.nap"], ["--version"], ["files", "x.db", "--refused"],
-         ["files", "x.db"], ["scan", ".", "--into", "x.db"], ["report", "x.db", "-o", "r.html"])
+WORDS = (["check", "a.nap"], ["list", "--json", "a.nap"], ["canon", "a.nap"], ["check", "--explain", "c.nap"],
+         ["show", "a.nap"], ["show", "--format", "text", "a.nap"], ["c.nap"], ["fix", "c.nap"], ["--version"],
+         ["files", "x.db", "--refused"], ["files", "x.db"], ["files", "--census", "x.db"], ["scan", ".", "-o", "x.db"],
+         ["report", "x.db", "-o", "r.html"])
 
 
 def home_of(tmp_path):
@@ -55,9 +56,9 @@ def test_environments_by_chance(naplps, tmp_path):
 
 def test_requests_by_chance(naplps, run, tmp_path):
     home, folder = home_of(tmp_path)
-    assert run(["scan", "pages", "--into", "../x.db"], cwd=home).returncode in (0, 1)
+    assert run(["scan", "pages", "-o", "../x.db"], cwd=home).returncode in (0, 1)
     before, chance, count, told = file_hashes(home), random.Random(time.time()), 0, set()
-    served = start(["serve", "../x.db", "--port", "0"], naplps, cwd=home)
+    served = start(["report", "../x.db", "--serve"], naplps, cwd=home)
     address = served.stdout.readline().decode().strip()
     port, key = int(address.split(":")[2].split("/")[0]), address.split("/")[3].encode()
     end = time.monotonic() + SECONDS

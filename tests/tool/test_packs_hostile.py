@@ -1,26 +1,27 @@
 """Packs that are made to do harm, or are damaged: rows with a reason, and the rest is read."""
 import gzip
-import io
 import os
 import resource
 import struct
 import subprocess
 import sys
 import tarfile
-import zipfile
+from random import Random
 
 import pytest
 from hypothesis import given, settings
 from hypothesis import strategies as st
 
 from command import COMMAND, PACKAGES
-from extremes import pax, record, summed
+from extremes import FIELDS, SPARSE, pax, record, with_field
 from naplps_pages.collection import tables
 from naplps_pages.packs import PackLimits
 from naplps_pages.packs.reading import open_file, open_pack
 from packers import (
     GIBIBYTE, add, deflated, entry, gzipped, header, member, pack, squeezed, tar_bomb, written, zip_bomb, zip_of,
 )
+from peaks import with_peak
+from random_packs import random_pack
 from samples import OUTSIDE, POINT, SPELLED
 from scans import rows
 
@@ -41,11 +42,11 @@ def found(run, tmp_path):
     """A function that scans a pack: the members by their names, what was said, and the status."""
     def finds(path, *words):
         store = os.path.join(str(tmp_path), "pages.db")
-        said = run(["scan", path, "--into", store, *words])
+        said = run(["scan", path, "-o", store, *words])
         assert b"Traceback" not in said.stderr and said.stdout
         members = {name[len(os.fsencode(path)):]: (status, reason) for name, status, reason in rows(
             store, "SELECT CAST(name AS BLOB), status, reason FROM listing")}
-        again = run(["scan", path, "--into", store, *words])    # (what is known of it is told again, and nothing asked)
+        again = run(["scan", path, "-o", store, *words])    # (what is known of it is told again, and nothing asked)
         assert sorted(again.stderr.splitlines()) == sorted(said.stderr.splitlines())
         assert again.returncode == said.returncode
         assert b", 0 pages asked about" in again.stdout.replace(b"known", b"", 1)
@@ -76,7 +77,7 @@ def test_a_tar_file_with_what_is_no_page(found, at):
         add(out, "long", b"A" * 300)
         add(out, ".", POINT)
         add(out, "last", OUTSIDE)
-    members, told, status = found(path, "--most", "299")
+    members, told, status = found(path, "--max-size", "299")
     away, nested = ("unreadable", "its name leads out of the pack"), ("unreadable", "a pack in a pack isn't opened")
     device = ("not a file", "a device")
     assert members == {
@@ -86,7 +87,7 @@ def test_a_tar_file_with_what_is_no_page(found, at):
         b"!disk": device, b"!odd": ("not a file", "of another kind"), b"!inner.zip": nested, b"!in.TGZ": nested,
         b"!long": ("too long", "300 bytes"), b"!.": ("unreadable", "it has no name"), b"!last": ("refused", None)}
     assert sorted(told) == sorted("%s: %s" % (name.decode(), reason) for name, (state, reason) in members.items()
-                                  if state == "unreadable") and status == 1
+                                  if state == "unreadable") and status == 3
 
 
 def test_several_members_of_one_name(found, at):
@@ -96,7 +97,7 @@ def test_several_members_of_one_name(found, at):
             add(out, name, data)
     reason = "the pack has several members of this name"
     wanted = {b"!a": ("unreadable", reason), b"!b": ("accepted", None), b"!c": ("refused", None)}
-    assert found(path) == (wanted, ["!a: " + reason], 1)
+    assert found(path) == (wanted, ["!a: " + reason], 3)
     entries = [entry(name, data, len(data), 0) for name, data in ((b"a", POINT), (b"b", POINT), (b"a", SPELLED),
                                                                   (b"c", OUTSIDE))]
     assert found(written(os.path.join(at, "twice.zip"), zip_of(entries)))[0] == wanted
@@ -110,17 +111,14 @@ def test_names_that_can_not_be_taken(found, at):
         add(out, "last", POINT)
     members, _, status = found(path)
     assert {reason for _, reason in members.values()} == {
-        None, "its name is longer than 4096 bytes", "its name has a NUL"} and status == 1
+        None, "its name is longer than 4096 bytes", "its name has a NUL"} and status == 3
 
 
 def test_a_sparse_file(found, at):
-    path = os.path.join(at, "sparse.tar")
-    sparse = bytearray(header("holes", 512, type=tarfile.GNUTYPE_SPARSE))
-    sparse[386:410] = b"%011o\0%011o\0" % (0, 512)
-    sparse[483:495] = b"%011o\0" % (1 << 32)
-    sparse[148:156] = b" " * 8
-    sparse[148:156] = b"%06o\0 " % sum(sparse)
-    written(path, bytes(sparse) + bytes(512) + member("last", POINT) + END)
+    sparse = header("holes", 512, type=tarfile.GNUTYPE_SPARSE)
+    for name, number in (("offset", 0), ("bytes", 512), ("real", 1 << 32)):
+        sparse = with_field(sparse, SPARSE[name], b"%011o\0" % number)
+    path = written(os.path.join(at, "sparse.tar"), sparse + bytes(512) + member("last", POINT) + END)
     assert found(path)[0] == {b"!holes": ("unreadable", "a sparse file isn't read in a pack"),
                               b"!last": ("accepted", None)}
 
@@ -151,7 +149,7 @@ def test_a_gzip_file_that_is_cut_or_damaged(found, at):
     good = gzip.compress(member("a", POINT) + member("b", data) + member("c", POINT) + END)
     path = written(os.path.join(at, "cut.tgz"), good[:5000])
     members, told, status = found(path)
-    assert members[b"!a"] == ("accepted", None) and status == 1
+    assert members[b"!a"] == ("accepted", None) and status == 3
     assert members[b"!b"] == ("unreadable", "the pack is cut or damaged amid it")
     assert members[b""][0] == "unreadable" and members[b""][1].startswith("it is cut: it ends at byte ")
     assert len(told) == 2
@@ -170,7 +168,7 @@ def test_behind_a_header_that_is_damaged_the_rest_is_read(found, at):
     reason = "it is damaged at byte 2048"
     members, told, status = found(path)
     assert members == {b"": ("unreadable", reason), **{b"!%d" % each: ("accepted", None) for each in (0, 1, 3, 4)}}
-    assert (told, status) == ([": " + reason], 1)
+    assert (told, status) == ([": " + reason], 3)
     members, told, _ = found(squeezed(os.path.join(at, "damaged.tar.gz"), bytes(data)))
     assert len(members) == 5 and members[b""] == ("unreadable", reason)
 
@@ -196,21 +194,15 @@ def test_a_pack_by_another_name_is_read_as_what_it_is(at):
 
 
 LONGNAME, NEGATIVE = b"L", b"\xff" * 12
-
-
-def with_size(block, size):
-    """The header with another field for the size."""
-    made = bytearray(block)
-    made[124:136] = size
-    made[148:156] = b" " * 8
-    made[148:156] = b"%06o\0 " % sum(made)
-    return bytes(made)
+TYPE = (156, 1)
 
 
 @pytest.mark.parametrize("head", [
     header("x", SIZE, type=LONGNAME), header("x", SIZE, type=tarfile.XHDTYPE),
-    header("x", SIZE, type=tarfile.XGLTYPE), header("x", 2 << 20, type=LONGNAME), with_size(header("x", 0), NEGATIVE),
-    with_size(header("x", 0, type=tarfile.XHDTYPE), NEGATIVE), with_size(header("x", 0), b"\x80" + b"\x7f" * 11),
+    header("x", SIZE, type=tarfile.XGLTYPE), header("x", 2 << 20, type=LONGNAME),
+    with_field(header("x", 0), FIELDS["size"], NEGATIVE),
+    with_field(header("x", 0, type=tarfile.XHDTYPE), FIELDS["size"], NEGATIVE),
+    with_field(header("x", 0), FIELDS["size"], b"\x80" + b"\x7f" * 11),
     (header("x", 512, type=LONGNAME) + bytes(512)) * 1500,
     (header("x", 512, type=tarfile.XHDTYPE) + b"9" * 512) * 1500,
     header("x", 30, type=tarfile.XHDTYPE) + b"30 GNU.sparse.map=1,2,3,4,5,\n".ljust(512, b"\0"),
@@ -254,9 +246,9 @@ def test_how_much_may_stand_before_a_member(at, head, number):
 def test_what_a_header_says_of_a_member(at):
     """The first of several headers counts, and a name that ends with '/' is a folder where the old form has it."""
     long = header("x", 6, type=LONGNAME) + b"other\0".ljust(512, b"\0")
-    old = with_type(header("short/", 0), b"\0")
+    old = with_field(header("short/", 0), TYPE, b"\0")
     data = (long + pax(record("path", b"second")) + member("a", POINT) + old + pax(record("path", b"b/c"))
-            + with_type(header("b/", 5), b"\0") + POINT.ljust(512, b"\0") + pax(record("size", b"5"))
+            + with_field(header("b/", 5), TYPE, b"\0") + POINT.ljust(512, b"\0") + pax(record("size", b"5"))
             + header("c", 600) + POINT.ljust(512, b"\0") + header("d", 5, type=tarfile.CONTTYPE)
             + POINT.ljust(512, b"\0") + END)
     members, made = members_of(written(os.path.join(at, "said.tar"), data))
@@ -264,17 +256,11 @@ def test_what_a_header_says_of_a_member(at):
         (b"other", POINT), (b"b/c", POINT), (b"c", POINT), (b"d", POINT)] and made.why is None
 
 
-def with_type(block, letter):
-    """The header with another type."""
-    return summed(block[:156] + letter + block[157:])
-
-
 def test_names_of_the_forms_of_tar(at):
     """Where GNU tar's own form has times, that of POSIX has the beginning of a name."""
     posix = tarfile.TarInfo("front/" * 18 + "name").tobuf(tarfile.USTAR_FORMAT)
-    gnu = bytearray(header("name", 0))
-    gnu[345:357] = b"13700000000\0"
-    members, made = members_of(written(os.path.join(at, "forms.tar"), posix + summed(bytes(gnu)) + END))
+    gnu = with_field(header("name", 0), (345, 12), b"13700000000\0")
+    members, made = members_of(written(os.path.join(at, "forms.tar"), posix + gnu + END))
     assert [each.name for each in members] == [b"front/" * 18 + b"name", b"name"] and made.why is None
 
 
@@ -301,22 +287,6 @@ def test_members_of_a_zip_file_that_overlap(at, data, names):
     assert {each.why for each in members if each.state != tables.READ} <= {reason}
 
 
-SCAN = """
-import resource, subprocess, sys
-said = subprocess.run(sys.argv[1:], capture_output=True)
-print(said.returncode, resource.getrusage(resource.RUSAGE_CHILDREN).ru_maxrss)
-print(said.stdout.decode() + said.stderr.decode())
-"""
-
-
-def measured(naplps, path, store):
-    """The status of a scan, the memory of its largest process in KiB, and what it said."""
-    said = subprocess.run([sys.executable, "-c", SCAN, COMMAND, "scan", path, "--into", store, "--processes", "1"],
-                          env=dict(os.environ, NAPLPS=naplps), capture_output=True, text=True, check=True)
-    numbers, text = said.stdout.split("\n", 1)
-    return (*map(int, numbers.split()), text)
-
-
 @pytest.mark.parametrize("make", [
     tar_bomb, zip_bomb, lambda path, size: zip_bomb(path, size, 100),
     lambda path, size: written(path, gzipped(deflated(header("x", size, type=LONGNAME), size=size))),
@@ -328,15 +298,17 @@ def test_a_bomb(naplps, at, make, request):
     path = make(os.path.join(at, "bomb.zip" if "zip" in kind else "bomb.tar.gz"), SIZE)
     assert os.path.getsize(path) < 16 << 20
     store = os.path.join(at, "pages.db")
-    status, memory, said = measured(naplps, path, store)
-    assert memory < 64 << 10 and "Traceback" not in said
+    ran, memory = with_peak([COMMAND, "scan", path, "-o", store, "--jobs", "1"],
+                            env=dict(os.environ, NAPLPS=naplps))
+    status, said = ran.returncode, ran.stderr.decode()
+    assert memory < 64 << 20 and "Traceback" not in said
     if kind in ("tar.gz", "zip"):
         told = dict(rows(store, "SELECT replace(name, ?, ''), reason FROM listing", path))
         assert told["!bomb.nap"] == "%d bytes" % SIZE
     if kind == "zip that lies":
-        assert "!bomb.nap: it can't be unpacked: Bad CRC-32" in said and status == 1
+        assert "!bomb.nap: it can't be unpacked: Bad CRC-32" in said and status == 3
     if kind == "tar.gz":
-        assert "isn't read: it unpacks to more than 100 times its size" in said and status == 1
+        assert "isn't read: it unpacks to more than 100 times its size" in said and status == 3
     _, made = members_of(path)
     if kind not in ("zip", "zip that lies"):
         assert made.stream.come < 2 * MOST
@@ -386,8 +358,7 @@ def test_a_hundred_thousand_members_cost_no_memory(at, ending):
             block[148:156] = b"%06o\0 " % (total + sum(name))
             out.write(block)
         out.write(END)
-    said = subprocess.run([sys.executable, "-c", COUNT, PACKAGES, path],
-                          capture_output=True, text=True, check=True)
+    said = subprocess.run([sys.executable, "-c", COUNT, PACKAGES, path], capture_output=True, text=True, check=True)
     number, more = map(int, said.stdout.split())
     assert number == 100_000 and more < 2 << 10
 
@@ -413,7 +384,7 @@ def test_a_zip_file_with_what_is_no_page(found, at):
         b"!first": None, b"!secret": "it is encrypted", b"!squeezed": "its compression isn't known: method 12",
         b"!imploded": "its compression isn't known: method 6", b"!link": "a symbolic link", b"!device": "a device",
         b"!../up": "its name leads out of the pack", b"!/top": "its name is absolute",
-        b"!in.tar": "a pack in a pack isn't opened", b"!last": None} and status == 1
+        b"!in.tar": "a pack in a pack isn't opened", b"!last": None} and status == 3
 
 
 @pytest.mark.parametrize("data", [
@@ -422,7 +393,7 @@ def test_a_zip_file_with_what_is_no_page(found, at):
     zip_of([entry(b"\xff\xfe", POINT, 5, 0, flags=1 << 11)])], ids=range(7))
 def test_a_zip_file_without_a_directory(found, at, data):
     members, told, status = found(written(os.path.join(at, "bad.zip"), data))
-    assert list(members) == [b""] and members[b""][0] == "unreadable" and status == 1
+    assert list(members) == [b""] and members[b""][0] == "unreadable" and status == 3
     assert told == [": " + members[b""][1]] and "can't be read as a zip file" in told[0]
 
 
@@ -433,30 +404,9 @@ def test_a_directory_that_is_too_long(at, monkeypatch):
     assert not members and "its directory is longer than 1000 bytes" in made.why
 
 
-def samples():
-    """A small pack of each kind."""
-    made = io.BytesIO()
-    with zipfile.ZipFile(made, "w", zipfile.ZIP_DEFLATED) as out:
-        for number in range(3):
-            out.writestr("%d" % number, b"page %d" % number)
-    pax = io.BytesIO()
-    with tarfile.open(fileobj=pax, mode="w", format=tarfile.PAX_FORMAT) as out:
-        for number in range(3):
-            add(out, "n\u00e9%d" % number * 40, b"page %d" % number, pax_headers={"comment": "x"})
-    return {"x.tar": pax.getvalue(), "x.tgz": gzip.compress(whole()), "x.zip": made.getvalue()}
-
-
-SAMPLES = samples()
-CHANGES = st.lists(st.tuples(st.integers(0, 1 << 16), st.integers(0, 255)), max_size=8)
-
-
-@settings(max_examples=100)
-@given(name=st.sampled_from(sorted(SAMPLES)), changes=CHANGES, cut=st.integers(0, 1 << 16))
-def test_packs_with_any_damage_end(tmp_path_factory, name, changes, cut):
-    data = bytearray(SAMPLES[name])
-    for place, value in changes:
-        data[place % len(data)] = value
-    folder = str(tmp_path_factory.getbasetemp())
-    path = written(os.path.join(folder, name), bytes(data[:cut] if cut < len(data) else data))
-    members, _ = members_of(path, 1 << 16)
+@settings(max_examples=400)
+@given(seed=st.integers(0, 1 << 32))
+def test_packs_with_any_damage_end(tmp_path_factory, seed):
+    ending, data = random_pack(Random(seed))
+    members, _ = members_of(written(os.path.join(tmp_path_factory.getbasetemp(), "x." + ending), data), 1 << 16)
     assert len(members) < 100 and all(each.data is None or len(each.data) == each.size for each in members)

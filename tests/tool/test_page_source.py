@@ -1,23 +1,36 @@
-"""Sources of pages: what each entry is written as, that `make` makes the same page of it, and the command source."""
+"""Sources of pages: what each entry is written as, that `make` makes the same page of it, and make --from.
+
+SOURCES says how many lists are written and read, and NAPLPS_SOURCES how many pages are made by chance; without them it
+is some hundreds.
+"""
 import os
+from pathlib import Path
 from random import Random
 
 import pytest
 from hypothesis import given
-from hypothesis import strategies as st
 
 import entries as listed
 import gallery
-from command import file
+import naplps as nap
+from command import TOP, file
+from libraries import library_path
 from lines import line_of
+from naplps import backends
+from naplps.backends import LibraryBackend
 from naplps.entry import read
+from naplps.limits import MOST_BUDGET, MOST_LISTED, USUAL_BUDGET
 from naplps_pages.authoring.translating import translate
 from naplps_pages.authoring.writing import source_lines
 from samples import BOMB, OUTSIDE
+from strategies import pages
 
-CHANCE = st.randoms(use_true_random=False)
-# How many lists are written and read: more where the environment says so.
-LISTS = int(os.environ.get("SOURCES", "300"))
+from dev.vectors.crate_rows import rows_of
+from dev.vectors.rows import files, vectors_of
+
+LISTS, PAGES = int(os.environ.get("SOURCES", "400")), int(os.environ.get("NAPLPS_SOURCES", "300"))
+# Of so many pages one is long.
+SELDOM, SHORT, LONG = 50, 60, 600
 WRITTEN = ("accents", "ferry", "index", "logo", "notice")
 
 
@@ -76,11 +89,6 @@ def test_what_carries_on_is_left_out_and_parts_have_comments():
         "# the character 41 of the set drcs", "GLYPH 41", "POINT 0,0", "END"]
 
 
-@given(CHANCE, st.integers(0, 40))
-def test_a_source_makes_the_same_list(chance, length):
-    written(*(line_of(entry) for entry in listed.legal_list(chance, length)))
-
-
 def test_many_lists_come_back():
     for seed in range(LISTS):
         chance = Random(seed)
@@ -90,7 +98,7 @@ def test_many_lists_come_back():
 @pytest.mark.parametrize("name", sorted(name for name in os.listdir(gallery.FOLDER) if name.endswith(".nap")))
 def test_the_pages_of_the_gallery_come_back(run, name):
     path = os.path.join(gallery.FOLDER, name)
-    said = run(["source", path])
+    said = run(["make", "--from", path])
     if name == "signature.nap":
         assert (said.returncode, said.stdout) == (1, b"")
         return
@@ -98,15 +106,75 @@ def test_the_pages_of_the_gallery_come_back(run, name):
     assert run(["make", "-"], said.stdout).stdout == run(["canon", path]).stdout
     stem = name[:-len(".nap")]
     if stem in WRITTEN:
-        with open(os.path.join(gallery.SOURCES, stem + ".txt"), encoding="utf-8") as source:
-            assert len(said.stdout.splitlines()) <= 2 * len(source.read().splitlines())
+        source = Path(gallery.SOURCES, stem + ".txt").read_text("utf-8")
+        assert len(said.stdout.splitlines()) <= 2 * len(source.splitlines())
 
 
 def test_pages_without_a_source(run, tmp_path):
-    said = run(["source", file(tmp_path, "refused.nap", OUTSIDE)])
+    said = run(["make", "--from", file(tmp_path, "refused.nap", OUTSIDE)])
     assert (said.returncode, said.stdout) == (1, b"")
     assert b"only an accepted page has a source" in said.stderr
-    bomb = run(["source", file(tmp_path, "bomb.nap", BOMB)])
+    bomb = run(["make", "--from", file(tmp_path, "bomb.nap", BOMB)])
     assert (bomb.returncode, bomb.stdout) == (3, b"") and b"more than 200000 entries" in bomb.stderr
-    none = run(["source", str(tmp_path / "none.nap")])
+    none = run(["make", "--from", str(tmp_path / "none.nap")])
     assert (none.returncode, none.stdout) == (3, b"") and b"none.nap: No such file" in none.stderr
+
+
+@pytest.fixture(scope="module")
+def library():
+    """The module asks the library."""
+    before = backends._found
+    backends._found = LibraryBackend(library_path())
+    yield
+    backends._found = before
+
+
+def remade(page, budget=USUAL_BUDGET):
+    """What `make` of the source of a page gives."""
+    made = translate("\n".join(source_lines(nap.entries(page, budget))))
+    assert made.mistakes == []
+    return nap.make(bytes(made.text).decode("ascii").splitlines())
+
+
+@pytest.mark.usefixtures("library")
+def test_pages_made_by_chance():
+    differ = entries = 0
+    for seed in range(PAGES):
+        chance = Random(seed)
+        most = SHORT if seed % SELDOM else LONG
+        page = nap.make(listed.legal_list(chance, chance.randrange(most)))
+        entries += nap.check(page)
+        differ += remade(page) != nap.canon(page)
+    print(f"{PAGES} pages made by chance, of {entries} entries: {differ} differ")
+    assert differ == 0
+
+
+@pytest.mark.usefixtures("library")
+@given(pages())
+def test_pages_as_senders_spell_them(page):
+    assert remade(page) == nap.canon(page)
+
+
+def streams():
+    """Each accepted stream of the rows and the vectors, with its place."""
+    for vector in (each for file in files() for each in vectors_of(file)):
+        if vector.accepted:
+            yield vector.place, vector.data
+    for row in rows_of(Path(TOP, "crates", "nap_rows", "data")):
+        if row.canonical is not None:
+            yield row.place, row.stream
+
+
+@pytest.mark.usefixtures("library")
+def test_rows_and_vectors():
+    count, differ, long = 0, [], []
+    for place, stream in streams():
+        canonical = nap.canon(stream, MOST_BUDGET)
+        if nap.check(canonical) > MOST_LISTED:
+            long.append(place)
+            continue
+        count += 1
+        if remade(stream, MOST_BUDGET) != canonical:
+            differ.append(place)
+    print(f"{count} streams of rows and vectors: {len(differ)} differ; {len(long)} are too long for a source")
+    assert differ == [] and count > 2_500 > len(long) * 100

@@ -4,47 +4,33 @@ import re
 import shutil
 import subprocess
 import sys
+from pathlib import Path
 
 import pytest
 
-from command import COMMAND, LIB, TOP
+from archive_shell import archive_with_tool, shell
+from command import LIB, TOP
 from samples import OUTSIDE, POINT, SPELLED, has
 from scans import FAKE, NO_STORE, every_table, statuses, tree
 
-SCRIPT = os.path.join(TOP, "examples", "scan-parts.sbatch")
+SCRIPT = os.path.join(TOP, "examples", "scan-shards.sbatch")
 SCALE = [sys.executable, "-m", "dev.measure_scale"]
 
 
-def document(name):
-    with open(os.path.join(TOP, "docs", name), encoding="utf-8") as file:
-        return file.read()
-
-
-RECIPES = dict(re.findall(r"<!-- parts: (\w+) -->\n```sh\n(.*?)```", document("COLLECTIONS.md"), re.DOTALL))
+RECIPES = dict(re.findall(r"<!-- parts: (\w+) -->\n```sh\n(.*?)```",
+                          Path(TOP, "docs", "COLLECTIONS.md").read_text("utf-8"), re.DOTALL))
 
 
 @pytest.fixture
 def archive(naplps, tmp_path, monkeypatch):
     """A folder with pages, where the tool is on the path, and the store of one scan of them."""
-    folder = str(tmp_path / "archive")
-    shutil.copytree(os.path.join(TOP, "examples", "pages"), os.path.join(folder, "pages"))
+    folder = archive_with_tool(tmp_path, naplps, monkeypatch)
+    monkeypatch.setenv("HOME", str(tmp_path))
     kinds = (POINT, SPELLED, OUTSIDE, b"\x0fhello")
     tree(os.path.join(folder, "pages", "more"), {
         "%d/it's %d" % (at % 3, at): kinds[at % 4] + b"\x0f%d" % (at % 5) for at in range(200)})
-    os.mkdir(str(tmp_path / "bin"))
-    os.symlink(COMMAND, str(tmp_path / "bin" / "naplps-pages"))
-    for name, value in (("NAPLPS", naplps), ("PATH", "%s:%s" % (tmp_path / "bin", os.environ["PATH"])),
-                        ("HOME", str(tmp_path))):
-        monkeypatch.setenv(name, value)
-    assert shell(folder, "naplps-pages scan pages --into %s" % (tmp_path / "one.db"))
+    assert shell(folder, "naplps-pages scan pages -o %s" % (tmp_path / "one.db"))
     return folder
-
-
-def shell(folder, words):
-    """What the words print."""
-    said = subprocess.run(["sh", "-c", words], cwd=folder, capture_output=True, text=True)
-    assert (said.stderr, said.returncode) == ("", 0)
-    return said.stdout
 
 
 def one_scan(archive):
@@ -65,14 +51,14 @@ def test_parts_by_parallel(archive):
     told = shell(archive, RECIPES["parallel"]).splitlines()
     assert len(told) == 9 and told[-1].startswith("212 files: ") and told[-1].endswith("; from 8 stores")
     assert every_table(os.path.join(archive, "pages.db")) == every_table(one_scan(archive))
-    assert shell(archive, RECIPES["equal"]) == shell(archive, "naplps-pages equal %s" % one_scan(archive)) != ""
-    assert sorted(os.listdir(archive)) == ["pages", "pages.db", *("part-%d.db" % at for at in range(8))]
+    assert shell(archive, RECIPES["equal"]) == shell(archive, f"naplps-pages equal {one_scan(archive)}") != ""
+    assert sorted(os.listdir(archive)) == ["pages", "pages.db", *("shard-%d.db" % at for at in range(8))]
 
 
 @pytest.fixture
 def slurm(archive, tmp_path, monkeypatch):
     """A folder where the stub of sbatch is on the path, and the script is there."""
-    os.mkdir(str(tmp_path / "jobs"))
+    (tmp_path / "jobs").mkdir()
     monkeypatch.setenv("SBATCH_STUB", str(tmp_path / "jobs"))
     os.symlink(os.path.join(LIB, "sbatch_stub.py"), str(tmp_path / "bin" / "sbatch"))
     shutil.copy(SCRIPT, archive)
@@ -80,42 +66,38 @@ def slurm(archive, tmp_path, monkeypatch):
 
 
 def test_parts_by_slurm(slurm, monkeypatch):
-    monkeypatch.setenv("PARTS", "5")                            # (64 take their time)
+    monkeypatch.setenv("SHARDS", "5")                            # (64 take their time)
     words = RECIPES["slurm"].replace("sbatch --parsable", "sbatch --array=0-4 --parsable")
     assert shell(slurm, words) == "Submitted batch job 2\n"
     assert every_table(os.path.join(slurm, "pages.db")) == every_table(one_scan(slurm))
     for at in range(5):
-        with open(os.path.join(slurm, "part-%d.log" % at), encoding="utf-8") as log:
-            assert re.fullmatch(r"\d+ files: .* known, \d+ pages? asked about\n", log.read())
+        log = Path(slurm, "shard-%d.log" % at).read_text("utf-8")
+        assert re.fullmatch(r"\d+ files: .* known, \d+ pages? asked about\n", log)
     # (tasks that are started again find all known)
-    assert shell(slurm, "sbatch --array=3,1 scan-parts.sbatch pages") == "Submitted batch job 3\n"
+    assert shell(slurm, "sbatch --array=3,1 scan-shards.sbatch pages") == "Submitted batch job 3\n"
     for at in (1, 3):
-        with open(os.path.join(slurm, "part-%d.log" % at), encoding="utf-8") as log:
-            first, second = log.read().splitlines()
+        first, second = Path(slurm, "shard-%d.log" % at).read_text("utf-8").splitlines()
         files = first.split()[0]
         assert second.startswith(files + " files: ") and second.endswith("; %s known, 0 pages asked about" % files)
 
 
 def test_the_script_says_so_much_of_itself():
-    with open(SCRIPT, encoding="utf-8") as file:
-        text = file.read()
-    assert "#SBATCH --array=0-63\n" in text and "${PARTS:-64}" in text
+    text = Path(SCRIPT).read_text("utf-8")
+    assert "#SBATCH --array=0-63\n" in text and "${SHARDS:-64}" in text
     assert subprocess.run(["sh", "-n", SCRIPT]).returncode == 0
 
 
 def test_a_part_that_fails_is_not_merged(slurm, monkeypatch):
-    monkeypatch.setenv("PARTS", "3")
-    with open(os.path.join(slurm, "part-1.db"), "wb") as file:
-        file.write(b"what is this?" * 100)
+    monkeypatch.setenv("SHARDS", "3")
+    tree(slurm, {"shard-1.db": b"what is this?" * 100})
     words = RECIPES["slurm"].replace("sbatch --parsable", "sbatch --array=0-2 --parsable")
     shell(slurm, words)
     assert not os.path.exists(os.path.join(slurm, "pages.db"))
-    with open(os.path.join(slurm, "part-1.log"), encoding="utf-8") as log:
-        assert log.read() == f"naplps-pages: part-1.db: {NO_STORE}\n"
+    assert Path(slurm, "shard-1.log").read_text("utf-8") == f"naplps-pages: shard-1.db: {NO_STORE}\n"
 
 
 def test_a_page_without_an_answer_ends_no_job(slurm, fake, monkeypatch):
-    monkeypatch.setenv("PARTS", "2")
+    monkeypatch.setenv("SHARDS", "2")
     monkeypatch.setenv("NAPLPS", fake(FAKE))
     tree(os.path.join(slurm, "pages"), {"dies": b"die"})
     words = RECIPES["slurm"].replace("sbatch --parsable", "sbatch --array=0-1 --parsable")
@@ -124,7 +106,8 @@ def test_a_page_without_an_answer_ends_no_job(slurm, fake, monkeypatch):
 
 
 def test_what_the_document_on_scale_names_is_there():
-    text = document(os.path.join("measurements", "README.md")).split("## Large collections\n")[1].split("\n## ")[0]
+    text = Path(TOP, "docs", "measurements", "README.md").read_text("utf-8")
+    text = text.split("## Large collections\n")[1].split("\n## ")[0]
     names = set(re.findall(r"python3 -m dev\.(\w+)", text))
     assert names >= {"measure_scale", "measure_pages"}
     for name in names:
@@ -137,7 +120,7 @@ def test_what_the_document_on_scale_names_is_there():
 
 
 def test_the_figures_can_be_measured(naplps, tmp_path):
-    for words in (["--rows", "2000", "--parts", "3"], ["--files", "300"], ["--sort", "1000"]):
+    for words in (["--rows", "2000", "--parts", "3"], ["--files", "300"]):
         result = subprocess.run([*SCALE, *words], capture_output=True, text=True, cwd=TOP,
                                 env=dict(os.environ, TMPDIR=str(tmp_path)))
         assert (result.stderr, result.returncode) == ("", 0) and "NOT" not in result.stdout

@@ -29,16 +29,8 @@ def asked(naplps):
     program.close()
 
 
-def looked(run, data, *words):
-    """The sketch of a page with its guess, and what is told beside it."""
-    said = run(["look", "-", "--past", *words], data)
-    svg = said.stdout.decode()
-    harmless(svg)
-    return svg, said
-
-
 def drawn(asked, data):
-    """The same without the command: the sketch, and the answer to the page."""
+    """The sketch of a page with its guess, without the command, and the answer to the page."""
     told = listed(asked, Page("", data))
     made = Guesser(asked, data).guess(told)
     assert made is not None, told
@@ -67,7 +59,9 @@ def texts(svg):
 
 
 def test_a_guess_is_hatched_and_told_as_one(run):
-    svg, said = looked(run, POINT + b"\x18" + BEHIND)
+    said = run(["show", "-", "--guess"], POINT + b"\x18" + BEHIND)
+    svg = said.stdout.decode()
+    harmless(svg)
     assert parts(svg) == ([FIRST], [SECOND])
     caption = "Sketch of 1 entry; then refused 6 LeftOut CAN at 5; then a guess of 1 entry"
     assert texts(svg) == [caption, HATCHED + "code at 5."]
@@ -82,30 +76,29 @@ def test_a_guess_is_hatched_and_told_as_one(run):
 
 def test_without_the_option_nothing_is_guessed(run):
     data = POINT + b"\x18" + BEHIND
-    svg = run(["look", "-"], data).stdout.decode()
+    svg = run(["show", "-"], data).stdout.decode()
     assert "mask" not in svg and rects(parsed(svg)) == [FIRST]
     assert run(["list", "-"], data).stdout == b"" and run(["canon", "-"], data).stdout == b""
 
 
-@pytest.mark.parametrize("command", sorted({*commands.NAMES} - {"look", "help"}))
+@pytest.mark.parametrize("command", sorted({*commands.MODULES} - {"show"}))
 def test_no_other_command_guesses(run, command):
-    words = ["--into", "x"] if command in ("box", "split", "carve", "scan", "canon", "convert", "merge") else []
-    words += ["-o", "x"] if command in ("play", "report") else []
-    said = run([command, "a", *(["b"] if command in ("find", "diff") else []), *words, "--past"])
-    assert said.returncode == 2 and b"unrecognized arguments: --past\n" in said.stderr and said.stdout == b""
+    words = ["-o", "x"] if command in ("box", "scan", "report") else []
+    said = run([command, "a", *(["b"] if command in ("find", "diff") else []), *words, "--guess"])
+    assert said.returncode == 2 and b"unrecognized arguments: --guess\n" in said.stderr and said.stdout == b""
 
 
 def test_a_guess_changes_no_answer_of_a_store(run, tmp_path):
     page, store = file(tmp_path, "page", POINT + b"\x18" + BEHIND), os.path.join(str(tmp_path), "pages.db")
     file(tmp_path, "other", POINT + BEHIND)
-    run(["look", page, "--past", "--into", os.path.join(str(tmp_path), "to")])
-    assert run(["scan", page, os.path.join(str(tmp_path), "other"), "--into", store]).returncode == 0
-    assert run(["equal", store]).stdout == b""
+    run(["show", page, "--guess", "-o", str(tmp_path / "to.svg")])
+    assert run(["scan", page, str(tmp_path / "other"), "-o", store]).returncode == 0
+    assert run(["equal", store, "--skip", "copies"]).stdout == b""
     assert b"page: refused 6 LeftOut CAN at 5, capture of 2 pages\n" in run(["files", store, "--kind", "any"]).stdout
 
 
 def test_an_accepted_page_has_no_guess(run):
-    assert run(["look", "-", "--past"], POINT).stdout == run(["look", "-"], POINT).stdout
+    assert run(["show", "-", "--guess"], POINT).stdout == run(["show", "-"], POINT).stdout
 
 
 @pytest.mark.parametrize("refused, name", [
@@ -148,7 +141,7 @@ def test_nothing_is_behind(asked, data):
 
 
 def test_it_is_told_that_nothing_is_behind(run):
-    said = run(["look", "-", "--past"], b"\x18")
+    said = run(["show", "-", "--guess"], b"\x18")
     assert said.stderr.endswith(b"; what stands behind can't be read on\n") and b"mask" not in said.stdout
 
 
@@ -167,16 +160,15 @@ def test_a_guess_doesnt_change_the_colours_of_what_is_sure(asked):
 
 def test_a_page_after_others_has_its_own_offsets(run, tmp_path):
     before, page = file(tmp_path, "before", POINT), file(tmp_path, "page", b"\x18" + BEHIND)
-    said = run(["look", page, "--past", "--after", before])
+    said = run(["show", page, "--guess", "--previous", before])
     svg = said.stdout.decode()
     assert parts(svg) == ([FIRST], [SECOND]) and texts(svg)[1] == HATCHED + "code at 0."
 
 
 def test_a_guess_into_a_folder(run, tmp_path):
-    page, folder = file(tmp_path, "page", POINT + b"\x18" + BEHIND), os.path.join(str(tmp_path), "to")
-    assert run(["look", page, "--past", "--into", folder]).returncode == 1
-    with open(os.path.join(folder, "page.svg"), encoding="utf-8") as made:
-        assert parts(made.read()) == ([FIRST], [SECOND])
+    page = file(tmp_path, "page", POINT + b"\x18" + BEHIND)
+    assert run(["show", page, "--guess", "-o", str(tmp_path / "to") + "/"]).returncode == 1
+    assert parts((tmp_path / "to" / "page.svg").read_text("utf-8")) == ([FIRST], [SECOND])
 
 
 @settings(max_examples=120, deadline=None, suppress_health_check=list(HealthCheck))

@@ -43,17 +43,13 @@ def bounds(some):
     return min(across), max(across), min(down), max(down)
 
 
-def test_a_level_line_of_a_wide_pel_is_as_high_as_the_pel():
-    wide, high = 0.03 * WIDTH, 0.004 * WIDTH
-    line = "LINE %d,%d %d,%d pel=%d,%d %s" % (*map(steps, (0.1, 0.6, 0.9, 0.6, 0.03, 0.004)), WHITE % 0)
+@pytest.mark.parametrize("parts, left, right, top, bottom", [
+    ((0.1, 0.6, 0.9, 0.6, 0.03, 0.004), 0.1, 0.93, 0.604, 0.6),
+    ((0.5, 0.1, 0.5, 0.6, -0.03, -0.004), 0.47, 0.5, 0.6, 0.096)], ids=["level", "upright"])
+def test_a_line_of_a_wide_pel_is_as_high_or_wide_as_the_pel(parts, left, right, top, bottom):
+    line = "LINE %d,%d %d,%d pel=%d,%d %s" % (*map(steps, parts), WHITE % 0)
     assert bounds(of_line(line)) == pytest.approx(
-        (0.1 * WIDTH, 0.9 * WIDTH + wide, HEIGHT - 0.6 * WIDTH - high, HEIGHT - 0.6 * WIDTH), abs=0.011)
-
-
-def test_an_upright_line_of_a_wide_pel_is_as_wide_as_the_pel():
-    line = "LINE %d,%d %d,%d pel=%d,%d %s" % (*map(steps, (0.5, 0.1, 0.5, 0.6, -0.03, -0.004)), WHITE % 0)
-    assert bounds(of_line(line)) == pytest.approx(
-        (0.47 * WIDTH, 0.5 * WIDTH, HEIGHT - 0.6 * WIDTH, HEIGHT - 0.1 * WIDTH + 0.004 * WIDTH), abs=0.011)
+        (left * WIDTH, right * WIDTH, HEIGHT - top * WIDTH, HEIGHT - bottom * WIDTH), abs=0.011)
 
 
 @pytest.mark.parametrize("size", [

@@ -59,14 +59,14 @@ def test_the_tool(installed, naplps, tmp_path):
     said = run(installed, "naplps-pages", "check", good, bad, NAPLPS=naplps)
     assert said.stdout.decode() == f"{good}: accepted 1 entries\n{bad}: refused 10 Outside at 3\n"
     assert (said.stderr, said.returncode) == (b"", 1)
-    assert b"What it means" in run(installed, "naplps-pages", "explain", bad, NAPLPS=naplps).stdout
+    assert b"What it means" in run(installed, "naplps-pages", "check", "--explain", bad, NAPLPS=naplps).stdout
 
 
 def test_scans_and_reports(installed, naplps, tmp_path):
     os.mkdir(str(tmp_path / "pages"))
     file(tmp_path / "pages", "good", POINT)
     store, html = str(tmp_path / "pages.db"), str(tmp_path / "report.html")
-    said = run(installed, "naplps-pages", "scan", str(tmp_path / "pages"), "--into", store, NAPLPS=naplps)
+    said = run(installed, "naplps-pages", "scan", str(tmp_path / "pages"), "-o", store, NAPLPS=naplps)
     assert said.stdout == b"1 file: 1 accepted (1 page), 0 refused; 0 known, 1 page asked about\n"
     said = run(installed, "naplps-pages", "report", store, "-o", html, NAPLPS=naplps)
     assert said.returncode == 0 and os.path.getsize(html) > 10_000

@@ -223,8 +223,7 @@ def test_a_letter_stands_in_its_cell():
     assert letter_at(it, 20, 30) == L_SHAPE
     # (double cells are 12.8 x 20 dots, and its dots two by two)
     it = painted("CHAR primary 4c pen=%s " % corner(20, 30) + TEXT % "double")
-    assert letter_at(it, 20, 30, 12, 20) == [
-        "".join(2 * each for each in row) for row in L_SHAPE for _ in range(2)]
+    assert letter_at(it, 20, 30, 12, 20) == ["".join(2 * each for each in row) for row in L_SHAPE for _ in range(2)]
     # (turned to the left, what was right is above, and the corner stays)
     it = painted("CHAR primary 4c pen=%s colour=own-start text=1,0/normal/----" % corner(20, 30))
     turned = ["".join(row[5 - k] for row in L_SHAPE) for k in range(6)]

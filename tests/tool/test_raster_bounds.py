@@ -1,6 +1,5 @@
 """What the worst pages known take of a painter of dots, in Python and in JavaScript: processor and memory."""
 import os
-import subprocess
 import sys
 
 import pytest
@@ -8,6 +7,7 @@ from command import PACKAGES, TOP
 from naplps.dots.shapes import PAGE, painted
 from naplps.dots.surface import BLACK, WHITE
 from naplps.entry import read_line
+from peaks import with_peak
 from samples import needs_node
 
 # Masks of 256 x 256 dots that are empty and count nothing; 3,000 of them once took 24 to 66 seconds.
@@ -35,20 +35,11 @@ def test_a_part_has_some_thousand_spans():
     assert max(parts) < 4096 + 200 and 20 * 85 * 200 <= sum(parts) <= 20 * 86 * 200
 
 
-# (a process begins with what the one had that starts it; so one in between starts the painter)
-STARTER = """
-import resource, subprocess, sys
-status = subprocess.run(sys.argv[1:]).returncode
-print(status, resource.getrusage(resource.RUSAGE_CHILDREN).ru_maxrss, file=sys.stderr)
-"""
-
-
 @pytest.mark.parametrize("page", PAGES)
 @pytest.mark.parametrize("painter", ["python", pytest.param("javascript", marks=needs_node)])
 def test_processor_and_memory(painter, page):
     (words, memory), (lines, seconds, white) = PAINTERS[painter], PAGES[page]
-    said = subprocess.run([sys.executable, "-c", STARTER, "prlimit", f"--cpu={seconds}", *words], cwd=PACKAGES,
-                          input="\n".join([*lines, ""]).encode("ascii"), capture_output=True)
-    status, kibibytes = map(int, said.stderr.splitlines()[-1].split())
-    assert status == 0 and kibibytes < memory << 10, said.stderr
+    said, peak = with_peak(["prlimit", f"--cpu={seconds}", *words], cwd=PACKAGES,
+                           input="\n".join([*lines, ""]).encode("ascii"))
+    assert said.returncode == 0 and peak < memory << 20, said.stderr
     assert said.stdout.decode("ascii").split() == [str(WHITE)] * white + [str(BLACK)] * (51200 - white)

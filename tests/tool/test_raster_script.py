@@ -8,6 +8,7 @@ import json
 import os
 import subprocess
 from array import array
+from pathlib import Path
 from random import Random
 
 import naplps as nap
@@ -104,8 +105,7 @@ def test_pages_that_end_by_the_bound():
 
 
 def test_both_have_one_font():
-    with open(os.path.join(TOP, "browser", "raster", "font_table.js"), encoding="utf-8") as file:
-        text = file.read()
+    text = Path(TOP, "browser", "raster", "font_table.js").read_text("utf-8")
     for name in ("SIGNS", "MARKS"):
         told = text[text.index(f"const {name} = [") + len(f"const {name} = "):]
         lines = json.loads(told[:told.index("\n];")].rstrip(",") + "]")

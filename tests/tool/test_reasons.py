@@ -2,6 +2,7 @@
 import json
 import os
 import subprocess
+from pathlib import Path
 
 import pytest
 
@@ -10,6 +11,7 @@ from naplps.answers import Refusal
 from naplps_pages import refusals
 from naplps_pages.refusals import case_of
 from samples import LEFT_OUT, POINT, with_parity
+from scans import store_of
 from spelled import logo
 
 
@@ -27,7 +29,7 @@ def test_each_code_has_a_text_and_a_number_of_its_own():
 @pytest.mark.parametrize("name", LEFT_OUT)
 def test_the_text_of_a_code_is_that_of_the_answer(run, tmp_path, name):
     page = POINT + bytes.fromhex(LEFT_OUT[name]) + b"\x0f" + b"A" * 2000
-    said = run(["explain", file(tmp_path, "page", page)]).stdout.decode()
+    said = run(["check", "--explain", file(tmp_path, "page", page)]).stdout.decode()
     assert ": refused 6 LeftOut %s at " % name in said
     assert refusals.text_of(6, name).means in " ".join(said.split())
 
@@ -49,45 +51,38 @@ def test_cases(run, tmp_path, data, number, code, case):
     assert case_of(data, Refusal(number, row["fault"], code, row["place"])) == case
     text = refusals.text_of(number, code or "", case)
     assert (text.code, text.case) == (code or "", case)
-    said = run(["explain", "page"], cwd=str(tmp_path)).stdout.decode()
+    said = run(["check", "--explain", "page"], cwd=str(tmp_path)).stdout.decode()
     assert text.means in " ".join(said.split())
 
 
 def test_the_command_is_told_in_full_and_runs(run, naplps, tmp_path):
     name = "grandma's $(page).nap"
     file(tmp_path, name, POINT + b"\x1a")
-    said = run(["explain", name], cwd=str(tmp_path)).stdout.decode()
+    said = run(["check", "--explain", name], cwd=str(tmp_path)).stdout.decode()
     (command,) = [line.strip() for line in said.splitlines() if line.startswith("    naplps-pages ")]
     env = dict(os.environ, NAPLPS=naplps, PATH=os.path.dirname(COMMAND) + os.pathsep + os.environ["PATH"])
-    assert subprocess.run(["sh", "-c", command], cwd=str(tmp_path), capture_output=True, env=env).returncode == 1
-    assert sorted(os.listdir(os.path.join(str(tmp_path), "treated"))) == [name, name + ".json"]
+    assert subprocess.run(["sh", "-c", command], cwd=str(tmp_path), capture_output=True, env=env).returncode == 0
+    assert sorted(os.listdir(str(tmp_path / "fixed"))) == [name, name + ".json"]
     for odd in ("-", "a\nb"):
         file(tmp_path, odd, POINT + b"\x1a")
-        said = run(["explain", odd], POINT + b"\x1a", cwd=str(tmp_path)).stdout.decode()
-        assert "    naplps-pages cures PAGE --into treated\n" in said
+        said = run(["check", "--explain", odd], POINT + b"\x1a", cwd=str(tmp_path)).stdout.decode()
+        assert "    naplps-pages fix PAGE -o fixed\n" in said
 
 
 @pytest.fixture
 def store(run, tmp_path):
     """The store of a page for each code, two for SDC, and one that is refused otherwise."""
-    top = os.path.join(str(tmp_path), "pages")
-    os.mkdir(top)
-    for name, text in LEFT_OUT.items():
-        file(top, name, POINT + bytes.fromhex(text) + b"A")
-    file(top, "SDC again", POINT + b"\x1a")
-    file(top, "eight", b"\xff")
-    made = os.path.join(str(tmp_path), "s.db")
-    run(["scan", top, "--into", made])
-    return made
+    return store_of(run, tmp_path, {
+        **{name: POINT + bytes.fromhex(text) + b"A" for name, text in LEFT_OUT.items()}, "SDC again": POINT + b"\x1a",
+        "eight": b"\xff"})
 
 
 @pytest.mark.parametrize("word, names", [
     ("SDC", ["SDC", "SDC again"]), ("sdc", ["SDC", "SDC again"]), ("1A", ["SDC", "SDC again"]), ("0x18", ["CAN"]),
     ("1B 5F", ["UNPROTECT"]), ("3a", ["INCREMENTAL-LINE"]), ("EighthBit", ["eight"]), ("1", ["eight"]),
     ("6", sorted([*LEFT_OUT, "SDC again"])), ("leftout", sorted([*LEFT_OUT, "SDC again"])), ("18", []), ("Cut", [])])
-@pytest.mark.parametrize("question", [["refused", "--reason"], ["files", "--refused"], ["files", "--reason"]])
-def test_refused_by_a_reason(run, store, question, word, names):
-    said = run([question[0], store, "--null", question[1], word])
+def test_refused_by_a_reason(run, store, word, names):
+    said = run(["files", store, "-0", "--reason", word])
     assert sorted(os.path.basename(name.decode()) for name in said.stdout.split(b"\0")[:-1]) == names
 
 
@@ -109,8 +104,7 @@ def test_a_reason_that_there_isnt(run, word):
 
 
 def test_the_report_has_the_text_of_the_code(run, store, tmp_path):
-    made = os.path.join(str(tmp_path), "report.html")
+    made = str(tmp_path / "report.html")
     assert run(["report", store, "-o", made]).returncode == 0
-    with open(made, encoding="utf-8") as report:
-        html = report.read()
+    html = Path(made).read_text("utf-8")
     assert "CP/M and MS-DOS end a file with it" in html and "The profile leaves" not in html

@@ -5,11 +5,12 @@ import platform
 import signal
 import subprocess
 import sys
+from pathlib import Path
 
 import pytest
 
 import gallery
-from command import TOP
+from command import TOP, file
 from no_connect import forbid_connect
 from pngs import apart, greys
 from samples import lack
@@ -32,10 +33,9 @@ def by_librsvg(svg, folder):
 
 def by_chromium(markup, folder):
     """A picture of some markup, and the addresses that it asked for. (No name is resolved.)"""
-    png, log, html = (os.path.join(folder, name) for name in ("chromium.png", "net.json", "page.html"))
-    with open(html, "wb") as page:
-        page.write(b"<body style='margin:0;background:#000'><style>svg{display:block;width:%dpx;height:%dpx}</style>"
-                   % (WIDE, HIGH) + markup)
+    png, log = os.path.join(folder, "chromium.png"), os.path.join(folder, "net.json")
+    html = file(folder, "page.html", b"<body style='margin:0;background:#000'><style>svg{display:block;width:%dpx;"
+                b"height:%dpx}</style>" % (WIDE, HIGH) + markup)
     subprocess.run(["chromium", "--headless", "--no-sandbox", "--disable-gpu", "--hide-scrollbars", "--no-first-run",
                     "--disable-background-networking", "--disable-component-update", "--disable-sync",
                     "--host-resolver-rules=MAP * ~NOTFOUND", "--user-data-dir=" + os.path.join(folder, "profile"),
@@ -46,8 +46,7 @@ def by_chromium(markup, folder):
 
 def asked_for(log):
     """The addresses that the page asked for, by a log of the network. (What Chromium asks for itself has no origin.)"""
-    with open(log, encoding="utf-8") as file:
-        text = file.read().rstrip().rstrip(",")
+    text = Path(log).read_text("utf-8").rstrip().rstrip(",")
     try:
         events = json.loads(text)["events"]
     except ValueError:  # it was ended before it closed the log
@@ -59,8 +58,7 @@ def asked_for(log):
 @pytest.mark.parametrize("name", [name for name in gallery.NAMES if "relative" not in name])
 def test_both_draw_the_same_and_ask_for_nothing(name, tmp_path):
     svg = os.path.join(FOLDER, name + ".svg")
-    with open(svg, "rb") as source:
-        png, asked = by_chromium(source.read(), str(tmp_path))
+    png, asked = by_chromium(Path(svg).read_bytes(), str(tmp_path))
     assert asked == set()
     assert apart(greys(png), greys(by_librsvg(svg, str(tmp_path)))) < MOST_APART
 

@@ -3,6 +3,8 @@ import base64
 import hashlib
 import os
 import re
+from pathlib import Path
+from types import SimpleNamespace
 
 import pytest
 
@@ -12,7 +14,7 @@ from naplps_pages.collection.store import open_to_read
 from naplps_pages.report import facts, making
 from naplps_pages.report import in_block
 from naplps_pages.report.drawing import Drawing, DrawnPage, shortened
-from naplps_pages.report.files import Roots
+from naplps_pages.report.files import Roots, joined
 from naplps_pages.report.making import choose
 from naplps_pages.report.sketch_workers import ENDED, IS_FULL, Room
 from reports import collection, held, words
@@ -28,11 +30,16 @@ WIDE = StreamWriter(1).domain().code(0x37, b"R" + b"Oy" * 1000).made()
 def made(run, tmp_path):
     """A function that scans some files, and makes a report of them; the path and what was said."""
     def makes(files, *more, program=None):
-        top = tree(os.path.join(str(tmp_path), "archive"), files)
-        store, html = os.path.join(str(tmp_path), "pages.db"), os.path.join(str(tmp_path), "report.html")
-        assert run(["scan", top, "--into", store], program=program).returncode == 0
+        store, html = str(tmp_path / "pages.db"), str(tmp_path / "report.html")
+        assert run(["scan", tree(tmp_path / "archive", files), "-o", store], program=program).returncode == 0
         return html, run(["report", store, "-o", html, *more], program=program)
     return makes
+
+
+def options_of(folder, program, sketches=200, processes=1):
+    """How another report of the store in a folder is made, in this process."""
+    return making.ReportOptions(
+        str(folder / "pages.db"), str(folder / "again.html"), program, sketches, False, processes, 20.0)
 
 
 def test_what_is_told(made):
@@ -55,19 +62,24 @@ def test_all_drawings_together_have_a_limit():
 
 @pytest.fixture
 def again(tmp_path, naplps):
-    """A function that makes another report of the store, in this process; its path."""
+    """A function that makes another report of the store; its path."""
     def makes(program=naplps, processes=1):
-        store, html = os.path.join(str(tmp_path), "pages.db"), os.path.join(str(tmp_path), "again.html")
-        making.make(open_to_read(store), making.ReportOptions(store, html, program, 200, False, processes, 20.0))
-        return html
+        options = options_of(tmp_path, program, processes=processes)
+        making.make(open_to_read(str(tmp_path / "pages.db")), options)
+        return str(tmp_path / "again.html")
     return makes
+
+
+def drawings_of(html):
+    """The sketch, the list and the reason of each page that a report holds."""
+    return [each for block in held(html)[1] for each in zip(block["sketch"], block["lines"], block["why"])]
 
 
 def test_what_there_is_no_room_for_is_left_out(made, again, monkeypatch):
     html, _ = made({"%d.nap" % at: words("PAGE %d" % at) for at in range(7)})
-    some = sum(([*zip(block["sketch"], block["lines"], block["why"])] for block in held(html)[1]), [])
+    some = drawings_of(html)
     monkeypatch.setattr(making, "MOST_HELD", 4 * max(len("".join(each)) + 10 for each in some))
-    less = sum(([*zip(block["sketch"], block["lines"], block["why"])] for block in held(again())[1]), [])
+    less = drawings_of(again())
     full = [each for each in less if each == ("", "", IS_FULL)]
     assert len(less) == len(some) == 7 and 1 <= len(full) <= 6
     assert full == [each for each in less if each not in some]
@@ -78,8 +90,7 @@ def test_blocks_have_the_drawings_in_their_order(made, again, number):
     made({"%03d.nap" % at: words("PAGE %d" % at) for at in range(number)})
     _, blocks = held(again(processes=3))
     size = in_block(number)
-    assert [len(each["sketch"]) for each in blocks] == [size] * (number // size) + [number % size] * (
-        number % size > 0)
+    assert [len(each["sketch"]) for each in blocks] == [size] * (number // size) + [number % size] * (number % size > 0)
     assert [text for each in blocks for text in each["text"]] == ["PAGE %d" % at for at in range(number)]
     assert [re.search(r">(PAGE [0-9]+)<", svg)[1] for each in blocks for svg in each["sketch"]] == [
         "PAGE %d" % at for at in range(number)]
@@ -93,8 +104,7 @@ def test_names_are_relative_to_the_roots_and_the_rest_of_the_machine_is_not_told
     html, _ = made({"x/a.nap": POINT, "b.nap": OUTSIDE})
     table, blocks = held(html)
     assert table["folders"] == ["", "x"] and table["columns"]["name"] == ["b.nap", "a.nap"]
-    with open(html, encoding="utf-8") as page:
-        text = page.read() + repr(table) + repr(blocks)
+    text = Path(html).read_text("utf-8") + repr(table) + repr(blocks)
     assert str(tmp_path) not in text and os.path.basename(str(tmp_path)) not in text
 
 
@@ -104,12 +114,15 @@ def test_roots():
     assert [roots.relative(path) for path in paths] == ["old", "old/part/x", "new", "new (2)/y", "older"]
     assert [Roots([b"/"]).relative(path) for path in (b"/", b"/usr/lib")] == ["", "usr/lib"]
     assert Roots([b"/data"]).relative(b"/data/\xff\x1b") == "\\xff\\x1b"
+    roots = Roots([b"/a", b"/b/pack.zip"])
+    assert [roots.relative(path) for path in (b"/a/x/p.tar!/", b"/b/pack.zip!/")] == ["a/x/p.tar!/", "pack.zip!/"]
+    assert Roots([b"/b/pack.zip"]).relative(b"/b/pack.zip!/") == "pack.zip!/"
+    assert [joined("p.tar!/", name) for name in (b"x/y", b"")] == ["p.tar!x/y", "p.tar"]
 
 
 def test_only_the_script_and_the_style_of_the_page_may_act(made):
     html, _ = made({"a.nap": POINT})
-    with open(html, encoding="utf-8") as page:
-        text = page.read()
+    text = Path(html).read_text("utf-8")
     policy = re.search(r'Content-Security-Policy" content="([^"]*)"', text)[1].replace("&#x27;", "'")
     style, script = re.search(r"<style>(.*?)</style>", text, re.DOTALL)[1], re.search(
         r"<script>(.*?)</script>", text, re.DOTALL)[1]
@@ -120,24 +133,22 @@ def test_only_the_script_and_the_style_of_the_page_may_act(made):
 
 
 def test_the_same_bytes_whatever_number_of_processes(run, tmp_path):
-    top, _ = collection(os.path.join(str(tmp_path), "archive"))
-    store = os.path.join(str(tmp_path), "pages.db")
-    run(["scan", top, "--into", store])
-    made = []
+    run(["scan", collection(tmp_path / "archive")[0], "-o", str(tmp_path / "pages.db")])
     for number in ("1", "3"):
-        html = os.path.join(str(tmp_path), number)
-        assert run(["report", store, "-o", html, "--processes", number]).returncode == 0
-        with open(html, "rb") as page:
-            made.append(page.read())
-    assert made[0] == made[1]
+        words = ["report", str(tmp_path / "pages.db"), "-o", str(tmp_path / number), "--jobs", number]
+        assert run(words).returncode == 0
+    assert (tmp_path / "1").read_bytes() == (tmp_path / "3").read_bytes()
 
 
 def test_what_is_held_of_pages(made):
-    html, _ = made({"a.nap": words("HELLO"), "b.nap": POINT, "c.nap": SPELLED, "d.nap": OUTSIDE})
+    html, _ = made({"a.nap": words("HELLO  WORLD"), "b.nap": POINT, "c.nap": SPELLED, "d.nap": OUTSIDE,
+                    "e.nap": words("A" * 100)})
     table, (block,) = held(html)
     at = table["columns"]["sketch"]
-    assert at[1] == at[2] and sorted(set(at)) == [0, 1, 2]
-    assert block["text"][at[0]] == "HELLO" and block["entries"][at[1]] == 1
+    assert at[1] == at[2] and sorted(set(at)) == [0, 1, 2, 3]
+    assert block["text"][at[0]] == "HELLO  WORLD" and block["entries"][at[1]] == 1
+    assert table["says"] == ["HELLO WORLD", "", "", "", "A" * 60]
+    assert table["hashes"][table["columns"]["page"][1]] == hashlib.sha256(POINT).hexdigest()[:16]
     assert all(each.startswith("<svg") for each in block["sketch"])
     assert block["lines"][at[1]] == "POINT 4194304,4194304 pel=0,0 colour=own-start"
     assert table["answers"] == ["accepted", "10 Outside"] and table["numbers"] == [0, 10]
@@ -155,7 +166,7 @@ def test_a_long_list_is_held_in_part(made):
 
 
 @pytest.mark.parametrize("more, sketches", [
-    ([], 5), (["--sketches", "2"], 2), (["--sketches", "0"], 0), (["--sketches", "all"], 5)])
+    ([], 5), (["--max-pictures", "2"], 2), (["--max-pictures", "0"], 0), (["--max-pictures", "all"], 5)])
 def test_how_many_sketches(made, more, sketches):
     html, said = made({"a": POINT, "b": b"", "c": POINT + b"\x0a" + POINT, "d": OUTSIDE, "e": b"\x1b"}, *more)
     assert b"%d of 5 sketches" % sketches in said.stdout and said.returncode == 0
@@ -164,45 +175,32 @@ def test_how_many_sketches(made, more, sketches):
 
 def test_how_many_sketches_where_nothing_or_all_is_said(made, naplps, tmp_path):
     usual, all_of_them = (parsing.parser_of("report").parse_args(["s.db", "-o", "html", *some])
-                          for some in ([], ["--sketches", "all"]))
+                          for some in ([], ["--max-pictures", "all"]))
     assert (usual.sketches, all_of_them.sketches) == (10_000, None)
     made({"a": POINT, "b": OUTSIDE, "c": b""})
-    store, html = os.path.join(str(tmp_path), "pages.db"), os.path.join(str(tmp_path), "again.html")
-    options = making.ReportOptions(store, html, naplps, 2, False, 1, 20.0)
+    store, options = str(tmp_path / "pages.db"), options_of(tmp_path, naplps, sketches=2)
     assert making.make(open_to_read(store), options).sketches == 2
-    whole = options._replace(all=True, replace=True)
-    assert making.make(open_to_read(store), whole).sketches == 3
+    assert making.make(open_to_read(store), options._replace(all=True, replace=True)).sketches == 3
 
 
-class Sorted:
-    """A table of a number of groups, refused files by their reasons, and others."""
-
-    def __init__(self, groups, refused, others):
-        class FakeFile:
-            def __init__(self, answer, summary, page):
-                self.answer, self.summary, self.page = answer, summary, page
-        self.groups = ["group"] * groups
-        self.files = [FakeFile(0, "accepted", at) for at in range(groups)]
-        for told, number in refused.items():
-            self.files += [FakeFile(1, told, (told, at)) for at in range(number)]
-        self.files += [FakeFile(0, "accepted", ("other", at)) for at in range(others)]
-        self.in_group = [at if at < groups else -1 for at in range(len(self.files))]
-
-
-def kinds(table, most):
-    some = choose(table, most)
+def kinds(most, groups, refused, others):
+    """What has a sketch of a table of a number of groups, refused files by their reasons, and others."""
+    told = ["accepted"] * groups + [reason for reason, number in refused.items() for _ in range(number)]
+    files = [SimpleNamespace(answer=int(each != "accepted"), summary=each, page=at)
+             for at, each in enumerate(told + ["accepted"] * others)]
+    some = choose(SimpleNamespace(groups=["group"] * groups, files=files, in_group=[
+        at if at < groups else -1 for at in range(len(files))]), most)
     assert len(set(some)) == len(some)
-    return [("group" if table.in_group[number] >= 0 else table.files[number].summary) for number in some]
+    return ["group" if number < groups else files[number].summary for number in some]
 
 
 def test_which_pages_have_a_sketch():
-    many = Sorted(100, {"1": 50, "2": 1, "3": 2}, 100)
-    chosen = kinds(many, 20)
-    assert chosen == ["group"] * 12 + ["1", "2", "3", "1", "3", "1"] + ["accepted"] * 2
-    assert kinds(Sorted(2, {"1": 1}, 100), 10) == ["group"] * 2 + ["1"] + ["accepted"] * 7
-    assert kinds(Sorted(100, {}, 1), 10) == ["group"] * 6 + ["accepted"] + ["group"] * 3
-    assert kinds(Sorted(1, {"1": 2}, 3), 100) == ["group", "1", "1", "accepted", "accepted", "accepted"]
-    assert kinds(many, 0) == []
+    many = 100, {"1": 50, "2": 1, "3": 2}, 100
+    assert kinds(20, *many) == ["group"] * 12 + ["1", "2", "3", "1", "3", "1"] + ["accepted"] * 2
+    assert kinds(10, 2, {"1": 1}, 100) == ["group"] * 2 + ["1"] + ["accepted"] * 7
+    assert kinds(10, 100, {}, 1) == ["group"] * 6 + ["accepted"] + ["group"] * 3
+    assert kinds(100, 1, {"1": 2}, 3) == ["group", "1", "1", "accepted", "accepted", "accepted"]
+    assert kinds(0, *many) == []
 
 
 def test_words_that_stood_there_before_are_left_out():
@@ -213,26 +211,24 @@ def test_words_that_stood_there_before_are_left_out():
 
 def test_a_page_that_changed_is_told_and_has_no_sketch(run, made, tmp_path):
     made({"a.nap": POINT, "b.nap": OUTSIDE})
-    name = file(os.path.join(str(tmp_path), "archive"), "a.nap", b"")
-    html = os.path.join(str(tmp_path), "second.html")
-    said = run(["report", os.path.join(str(tmp_path), "pages.db"), "-o", html])
+    name, html = file(tmp_path / "archive", "a.nap", b""), str(tmp_path / "second.html")
+    said = run(["report", str(tmp_path / "pages.db"), "-o", html])
     assert said.returncode == 1
     assert said.stderr.decode() == "naplps-pages: %s: no sketch: it isn't as it was when it was scanned\n" % name
     assert [block["why"] for block in held(html)[1]] == [["it isn't as it was when it was scanned", ""]]
 
 
 def test_a_page_that_ends_the_process_that_draws_it(made, fake, tmp_path):
-    tree(os.path.join(str(tmp_path), "archive"), {"a": b"good", "c": b"well"})
     program = fake(FAKE.replace("== b'kill its parent'", "== b'kill' and command != b'canon' and os.path.exists(%r)" % (
-        os.path.join(str(tmp_path), "pages.db"))))
-    html, said = made({"b": b"kill"}, "--processes", "1", program=program)
-    assert ENDED in said.stderr.decode() and said.returncode == 1 and os.path.exists(html)
+        str(tmp_path / "pages.db"))))
+    html, said = made({"a": b"good", "b": b"kill", "c": b"well"}, "--jobs", "1", program=program)
+    assert ENDED in said.stderr.decode() and said.returncode == 3 and os.path.exists(html)
 
 
 def test_pages_beside_those_that_end_processes_have_their_own_answers(made, again, fake, tmp_path):
     pages = {"%02d" % at: b"%b %d" % (b"kill" if at in (1, 2, 4, 9) else b"good", at) for at in range(10)}
-    program = fake(FAKE.replace("page == b'kill its parent'", "page[:4] == b'kill' and os.path.exists(%r)" % (
-        os.path.join(str(tmp_path), "end"))).replace("b'canonical ' + page[:1]", "b'canonical ' + page"))
+    program = fake(FAKE.replace("page == b'kill its parent'", "page[:4] == b'kill' and os.path.exists(%r)" % str(
+        tmp_path / "end")).replace("b'canonical ' + page[:1]", "b'canonical ' + page"))
     made(pages, program=program)
     file(str(tmp_path), "end", b"")
     why = [each for block in held(again(program))[1] for each in block["why"]]
@@ -243,42 +239,35 @@ def test_pages_beside_those_that_end_processes_have_their_own_answers(made, agai
                                           ("none/report.html", "there is no such folder")])
 def test_a_file_that_cannot_be_made_is_told_at_once(made, run, tmp_path, name, reason):
     made({"a": POINT})
-    file(str(tmp_path), "there", b"something")
-    html = os.path.join(str(tmp_path), name)
-    said = run(["report", os.path.join(str(tmp_path), "pages.db"), "-o", html])
+    file(tmp_path, "there", b"something")
+    html = str(tmp_path / name)
+    said = run(["report", str(tmp_path / "pages.db"), "-o", html])
     assert (said.returncode, said.stderr.decode()) == (3, "naplps-pages: %s: %s\n" % (html, reason))
 
 
 def test_a_report_is_replaced_where_that_is_asked(made, run, tmp_path):
     html, _ = made({"a": POINT})
-    store = os.path.join(str(tmp_path), "pages.db")
-    with open(html, "rb") as page:
-        before = page.read()
-    tree(os.path.join(str(tmp_path), "archive"), {"b": OUTSIDE})
-    run(["scan", os.path.join(str(tmp_path), "archive"), "--into", store])
-    said = run(["report", store, "-o", html, "--replace"])
+    assert len(held(html)[0]["columns"]["name"]) == 1
+    _, said = made({"b": OUTSIDE}, "--force")
     assert said.returncode == 0 and len(held(html)[0]["columns"]["name"]) == 2
-    with open(html, "rb") as page:
-        assert page.read() != before
-    assert sorted(os.listdir(str(tmp_path))) == ["archive", "pages.db", "report.html"]
+    assert sorted(os.listdir(tmp_path)) == ["archive", "pages.db", "report.html"]
 
 
 @pytest.mark.parametrize("name", ["pages.db", "archive/a", "empty", "link"])
 def test_what_is_no_report_is_not_replaced(made, run, tmp_path, name):
     made({"a": POINT})
-    file(str(tmp_path), "empty", b"")
-    os.symlink("nothing", os.path.join(str(tmp_path), "link"))
-    path = os.path.join(str(tmp_path), name)
-    said = run(["report", os.path.join(str(tmp_path), "pages.db"), "-o", path, "--replace"])
+    file(tmp_path, "empty", b"")
+    (tmp_path / "link").symlink_to("nothing")
+    path = tmp_path / name
+    said = run(["report", str(tmp_path / "pages.db"), "-o", str(path), "--force"])
     assert said.returncode == 3 and said.stderr.decode().startswith("naplps-pages: %s: " % path)
-    assert os.path.islink(path) or b"<html" not in open(path, "rb").read()
+    assert path.is_symlink() or b"<html" not in path.read_bytes()
 
 
-def test_progress_is_told(made, again, monkeypatch, capsys):
-    monkeypatch.setattr("naplps_pages.collection.progress.SELDOM", 0)
-    made({"a.nap": POINT, "b.nap": OUTSIDE})
-    again()
-    assert "naplps-pages: 2 of 2 sketches, " in capsys.readouterr().err
+def test_a_report_is_printed(made, run, tmp_path):
+    html, _ = made({"a": POINT})
+    said = run(["report", str(tmp_path / "pages.db"), "-o", "-"])
+    assert (said.returncode, said.stderr) == (0, b"") and said.stdout == Path(html).read_bytes()
 
 
 def test_processes_that_draw_nothing_end_a_report_in_time(made, again, monkeypatch):
@@ -289,13 +278,6 @@ def test_processes_that_draw_nothing_end_a_report_in_time(made, again, monkeypat
     assert why == [ENDED] * 12
 
 
-def test_first_words_and_hashes(made):
-    html, _ = made({"a.nap": words("HELLO  WORLD"), "b.nap": words("A" * 100), "c.nap": POINT})
-    table, _ = held(html)
-    assert table["says"] == ["HELLO WORLD", "A" * 60, ""]
-    assert table["hashes"][table["columns"]["page"][2]] == hashlib.sha256(POINT).hexdigest()[:16]
-
-
 def test_folders_to_choose():
     some = facts._folders([("a", 1), ("a/b", 2), ("c/d.zip!/", 3), ("", 4), ("x/y/z", 5)])
     assert some == [("a", 3), ("a/b", 2), ("c", 3), ("c/d.zip!/", 3), ("x", 5), ("x/y", 5), ("x/y/z", 5)]
@@ -304,27 +286,29 @@ def test_folders_to_choose():
     assert len(facts._folders(("%04d" % at, 1) for at in range(1000))) == 500
 
 
-@pytest.mark.parametrize("command", [["report", "-o", "x.html"], ["serve"]])
-def test_what_is_no_store(run, tmp_path, command):
-    words = [command[0], "none.db", *command[1:]]
+@pytest.mark.parametrize("words", [["report", "none.db", "-o", "x.html"], ["report", "none.db", "--serve"]])
+def test_what_is_no_store(run, tmp_path, words):
     said = run(words, cwd=str(tmp_path))
     assert (said.returncode, said.stderr) == (3, b"naplps-pages: none.db: No such file or directory\n")
-    file(str(tmp_path), "none.db", b"text")
+    file(tmp_path, "none.db", b"text")
     said = run(words, cwd=str(tmp_path))
     assert said.returncode == 3 and said.stderr.count(b"\n") == 1
 
 
-@pytest.mark.parametrize("words", [["report", "x.db"], ["report", "x.db", "-o", "y", "--sketches", "-1"],
-                                   ["report", "x.db", "-o", "y", "--sketches", "few"],
-                                   ["report", "x.db", "-o", "y", "--sketches", "50001"], ["serve"],
-                                   ["serve", "x.db", "--port", "65536"], ["serve", "x.db", "--into", "y"]])
+@pytest.mark.parametrize("words", [["report", "x.db"], ["report", "x.db", "-o", "y", "--max-pictures", "-1"],
+                                   ["report", "x.db", "-o", "y", "--max-pictures", "few"],
+                                   ["report", "x.db", "-o", "y", "--max-pictures", "50001"], ["report", "--serve"],
+                                   ["report", "x.db", "--serve", "--port", "65536"],
+                                   ["report", "x.db", "--serve", "-o", "y"],
+                                   ["report", "x.db", "-o", "y", "--port", "1"],
+                                   ["report", "x.db", "--serve", "--force"]])
 def test_wrong_words(run, words):
     said = run(words)
     assert said.returncode == 2 and said.stdout == b"" and b"Traceback" not in said.stderr
 
 
 def test_an_empty_collection(made, tmp_path):
-    os.mkdir(os.path.join(str(tmp_path), "archive"))
+    (tmp_path / "archive").mkdir()
     html, said = made({})
     assert said.returncode == 0 and b"0 files, 0 groups" in said.stdout
     assert held(html)[0]["columns"]["name"] == [] and held(html)[1] == []

@@ -1,7 +1,8 @@
 """Reports of refused pages that treatments make readable: the treated copy is drawn, marked, and counted."""
-import os
 import re
 import sqlite3
+from contextlib import closing
+from pathlib import Path
 from random import Random
 
 import pytest
@@ -24,7 +25,7 @@ FILES = {"as it is": PAGE, "parity": with_parity(PAGE), "end": PAGE + b"\x1a", "
 @pytest.fixture
 def store(run, tmp_path):
     pages, store = tree(str(tmp_path / "pages"), FILES), str(tmp_path / "pages.db")
-    assert run(["scan", pages, "--into", store, "--cures"]).returncode == 0
+    assert run(["scan", pages, "-o", store], keeps="repair").returncode == 0
     return store
 
 
@@ -64,16 +65,14 @@ def test_the_treated_copy_is_drawn_and_marked(run, store, tmp_path, as_before):
 def test_the_chart_says_what_is_readable_by_what(run, store, tmp_path):
     path = str(tmp_path / "report.html")
     assert run(["report", store, "-o", path]).returncode == 0
-    with open(path, encoding="utf-8") as file:
-        means = dict(re.findall(r'data-answer="([^"]*)".*?class="means">([^<]*)<', file.read()))
+    means = dict(re.findall(r'data-answer="([^"]*)".*?class="means">([^<]*)<', Path(path).read_text("utf-8")))
     assert means["1 EighthBit"].endswith(" Readable when treated: 1 by parity (around).")
     assert means["6 LeftOut CAN"].endswith(" Readable when treated: 1 by can (within, a guess).")
     assert "Readable" not in means["10 Outside"]
 
 
 def test_a_served_report_draws_it_too(store, naplps):
-    questions, client = Questions(store), Client(naplps)
-    try:
+    with closing(Questions(store)) as questions, closing(Client(naplps)) as client:
         files = {each["name"]: each for each in questions.ask("files", {"from": "0", "count": "9"})["files"]}
         assert {name: each["treated"] for name, each in files.items()} == {
             "as it is": "", "parity": "parity (around)", "end": "tail (around)", "guess": "can (within, a guess)",
@@ -82,19 +81,13 @@ def test_a_served_report_draws_it_too(store, naplps):
                 for name, each in files.items()}
         assert made["parity"].text == made["guess"].text == made["as it is"].text != ""
         assert "a guess" in made["guess"].sketch and "treated by" not in made["as it is"].sketch
-    finally:
-        questions.close()
-        client.close()
 
 
 def test_a_copy_that_is_another_now_is_not_drawn(run, store, tmp_path):
-    connection = sqlite3.connect(store)
-    connection.execute("UPDATE cures SET copy = zeroblob(32) WHERE treatments = 'parity'")
-    connection.commit()
-    connection.close()
+    with closing(sqlite3.connect(store)) as connection, connection:
+        connection.execute("UPDATE cures SET copy = zeroblob(32) WHERE treatments = 'parity'")
     path = str(tmp_path / "report.html")
     said = run(["report", store, "-o", path])
     assert said.returncode == 1 and said.stderr.decode() == (
-        f"naplps-pages: {os.path.join(str(tmp_path), 'pages', 'parity')}: no sketch: the treatments make another copy "
-        "than in the scan\n")
+        f"naplps-pages: {tmp_path}/pages/parity: no sketch: the treatments make another copy than in the scan\n")
     assert drawings(path)["parity"]["why"] == "the treatments make another copy than in the scan"

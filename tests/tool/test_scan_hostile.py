@@ -3,7 +3,6 @@ import os
 import shutil
 import signal
 import sqlite3
-import stat
 import time
 import types
 
@@ -13,20 +12,14 @@ from forked import begun, ended, forked, require_told
 from naplps_pages.collection import search, tables
 from naplps_pages.collection.folders import identity_of
 from naplps_pages.collection.search import MAX_BROKEN, hidden, walk
-from naplps_pages.collection.protocol import FolderFiles, WorkerOptions
+from naplps_pages.collection.protocol import FolderFiles
 from naplps_pages.collection.scan import ScanRun
 from naplps_pages.collection.store import open_to_read
-from naplps_pages.collection.worker import Worker
 from packers import entry, pack, written, zip_of
 from samples import OUTSIDE, POINT, SPELLED
-from scans import FAKE, made_up, rows, slow, tree, wait_until
+from scans import FAKE, alter, files_read, made_up, replaced_by_link, rows, slow, tree, wait_until
 
 REPLACED = "another folder took the place of its own while it was scanned"
-
-
-@pytest.fixture
-def store(tmp_path):
-    return os.path.join(str(tmp_path), "pages.db")
 
 
 def chunks(root, hides):
@@ -36,11 +29,6 @@ def chunks(root, hides):
         for name in listing.packs:
             path = os.path.join(listing.path, name) + b"!/"
             yield FolderFiles(number + 100, path, (b"",), listing.identity, len(root))
-
-
-def replaced_by_link(sub, outside):
-    os.rename(sub, sub + "-moved")
-    os.symlink(outside, sub)
 
 
 def replaced_by_folder(sub, outside):
@@ -59,19 +47,17 @@ def linked_above(sub, outside):
 
 def read_by_worker(fake, chunk, elsewhere=False):
     """The files of a chunk as a worker reads them, by their names."""
-    worker = Worker(WorkerOptions(fake(FAKE), 0, 600, 1 << 20), lambda hashes: set(), elsewhere=elsewhere)
-    found = [file for piece in worker.pieces(tuple(chunk)) for file in piece[0]]
-    worker.close()
-    return {file.name: (file.state, file.why, file.own) for file in found}
+    return {file.name: (file.state, file.why, file.own)
+            for file in files_read(fake(FAKE), chunk, elsewhere=elsewhere)}
 
 
 @pytest.mark.parametrize("change", [replaced_by_link, replaced_by_folder, linked_above])
 def test_a_folder_that_is_replaced_while_it_waits_is_not_read(fake, tmp_path, change):
-    root = tree(os.path.join(str(tmp_path), "root"), {"a": POINT, "top/sub/b": POINT, "top/sub/c": OUTSIDE})
-    outside = tree(os.path.join(str(tmp_path), "outside"), {"b": b"TOP SECRET", "c": b"TOP SECRET", "d": b"x"})
+    root = tree(tmp_path / "root", {"a": POINT, "top/sub/b": POINT, "top/sub/c": OUTSIDE})
+    outside = tree(tmp_path / "outside", {"b": b"TOP SECRET", "c": b"TOP SECRET", "d": b"x"})
     for folder in (os.path.join(root, "top", "sub"), outside):
         pack(os.path.join(folder, "p.tar"), {"m": b"TOP SECRET"})
-    met = list(chunks(root, hidden(os.path.join(str(tmp_path), "pages.db"))))
+    met = list(chunks(root, hidden(str(tmp_path / "pages.db"))))
     change(os.path.join(root, "top", "sub"), outside)
     found = read_by_worker(fake, met)
     assert found.pop(b"a")[0] == tables.READ
@@ -81,18 +67,18 @@ def test_a_folder_that_is_replaced_while_it_waits_is_not_read(fake, tmp_path, ch
 @pytest.fixture
 def exchanged(tmp_path):
     """The chunks of a folder, of which one above others then becomes a link to a folder outside."""
-    root = tree(os.path.join(str(tmp_path), "root"), {"top/sub/b": POINT})
-    outside = tree(os.path.join(str(tmp_path), "outside"), {"sub/b": b"TOP SECRET"})
+    root = tree(tmp_path / "root", {"top/sub/b": POINT})
+    outside = tree(tmp_path / "outside", {"sub/b": b"TOP SECRET"})
     for folder in (os.path.join(root, "top", "sub"), os.path.join(outside, "sub")):
         pack(os.path.join(folder, "p.tar"), {"m": b"TOP SECRET"})
-    met = list(chunks(root, hidden(os.path.join(str(tmp_path), "pages.db"))))
+    met = list(chunks(root, hidden(str(tmp_path / "pages.db"))))
     replaced_by_link(os.path.join(root, "top"), outside)
     return met, os.stat(os.path.join(outside, "sub")).st_ino
 
 
 def test_a_scan_reads_nothing_outside_of_the_folder_that_was_named(naplps, tmp_path, store, monkeypatch):
-    root = tree(os.path.join(str(tmp_path), "root"), {"top/a/in": POINT, "top/b/in": SPELLED})
-    outside = tree(os.path.join(str(tmp_path), "outside"), {"a/secret": OUTSIDE, "b/secret": OUTSIDE})
+    root = tree(tmp_path / "root", {"top/a/in": POINT, "top/b/in": SPELLED})
+    outside = tree(tmp_path / "outside", {"a/secret": OUTSIDE, "b/secret": OUTSIDE})
     listed, top = search._listed, os.path.join(root, "top")
     status = os.stat(top)
 
@@ -102,9 +88,9 @@ def test_a_scan_reads_nothing_outside_of_the_folder_that_was_named(naplps, tmp_p
             replaced_by_link(top, outside)
         return names
     monkeypatch.setattr(search, "_listed", meanwhile)
-    said = forked(["scan", "root", "--into", "pages.db"], str(tmp_path), naplps)
+    said = forked(["scan", "root", "-o", "pages.db"], str(tmp_path), naplps)
     assert rows(store, "SELECT name, state, page FROM files") == [(b"in", tables.CHANGED, None)] * 2
-    assert said.status == 1 and said.err.decode().splitlines() == [
+    assert said.status == 3 and said.err.decode().splitlines() == [
         f"naplps-pages: {root}/top/{name}/in: {REPLACED}" for name in "ab"]
 
 
@@ -125,15 +111,15 @@ def test_files_that_wait_are_read_in_the_folder_that_was_named(fake, exchanged, 
     writer.connection.execute("CREATE TABLE folders(id, path)")
     writer.connection.executemany("INSERT INTO folders VALUES(?, ?)", [(each.folder, each.path) for each in met])
     run = types.SimpleNamespace(writer=writer)
-    waiting = ScanRun._waiting(run, [os.fsencode(os.path.join(str(tmp_path), "root"))])
+    waiting = ScanRun._waiting(run, [os.fsencode(str(tmp_path / "root"))])
     found = read_by_worker(fake, [each for chunk in waiting for each in chunk if b"sub" in each.path])
     assert found == {name: (tables.VANISHED, why, None) for name, why in (
         (b"b", "its folder vanished"), (b"", "it vanished while it was looked at"))}
 
 
 def test_a_pack_that_becomes_a_link_while_it_waits_is_not_read(fake, tmp_path):
-    root = tree(os.path.join(str(tmp_path), "root"), {"sub/b": POINT})
-    path, outside = os.path.join(root, "sub", "p.tar"), os.path.join(str(tmp_path), "outside.tar")
+    root = tree(tmp_path / "root", {"sub/b": POINT})
+    path, outside = os.path.join(root, "sub", "p.tar"), str(tmp_path / "outside.tar")
     pack(outside, {"m": b"TOP SECRET"})
     os.symlink(outside, path)
     found = read_by_worker(fake, [FolderFiles(1, os.fsencode(path) + b"!/", (b"",), None, len(root))])
@@ -141,22 +127,22 @@ def test_a_pack_that_becomes_a_link_while_it_waits_is_not_read(fake, tmp_path):
 
 
 def test_a_named_folder_may_be_a_link_but_no_other(run, tmp_path, store):
-    root = tree(os.path.join(str(tmp_path), "root"), {"a": POINT, "sub/b": POINT})
+    root = tree(tmp_path / "root", {"a": POINT, "sub/b": POINT})
     pack(os.path.join(root, "p.zip"), {"m": POINT})
-    link = os.path.join(str(tmp_path), "link")
+    link = str(tmp_path / "link")
     os.symlink(root, link)
     os.symlink("sub", os.path.join(root, "other"))
-    assert run(["scan", link, "--into", store]).returncode == 0
+    assert run(["scan", link, "-o", store]).returncode == 0
     assert {name[len(str(tmp_path)):]: state for name, state in rows(store, "SELECT name, status FROM listing")} == {
         "/link/a": "accepted", "/link/sub/b": "accepted", "/link/p.zip!m": "accepted", "/link/other": "not a file"}
 
 
 def test_a_mount_is_known_elsewhere_by_more_than_its_number(tmp_path):
     tree(tmp_path, {"a/x": POINT})
-    descriptor = os.open(os.path.join(str(tmp_path), "a"), os.O_RDONLY)
+    descriptor = os.open(str(tmp_path / "a"), os.O_RDONLY)
     which = identity_of(descriptor, True)
     os.close(descriptor)
-    status = os.stat(os.path.join(str(tmp_path), "a"))
+    status = os.stat(str(tmp_path / "a"))
     assert which == (True, status.st_dev, status.st_ino, False)
     descriptor = os.open("/proc", os.O_RDONLY)
     assert identity_of(descriptor, False).is_mount
@@ -164,19 +150,19 @@ def test_a_mount_is_known_elsewhere_by_more_than_its_number(tmp_path):
 
 
 @pytest.mark.parametrize("command", [
-    ["equal", "pages.db", "--with", "copies", "--verify"], ["canon", "pages.db", "--into", "made"],
-    ["look", "pages.db", "--into", "made"], ["cures", "pages.db", "--into", "made"], ["census", "pages.db"],
+    ["equal", "pages.db", "--verify"], ["canon", "pages.db", "-o", "made"],
+    ["show", "pages.db", "-o", "made"], ["fix", "pages.db", "-o", "made"], ["files", "--census", "pages.db"],
     ["report", "pages.db", "-o", "made.html"]])
 def test_a_page_that_became_long_is_changed_and_not_read(naplps, tmp_path, command):
     folder = str(tmp_path)
     tree(os.path.join(folder, "pages"), {"a": POINT, "b": SPELLED, "c": OUTSIDE, "d": b"\x0f" * 100})
-    assert forked(["scan", "pages", "--into", "pages.db", "--cures"], folder, naplps).status == 0
+    assert forked(["scan", "pages", "-o", "pages.db"], folder, naplps, keeps="repair").status == 0
     for name in "abc":
         os.truncate(os.path.join(folder, "pages", name), 8 << 40)
     said = forked(command, folder, naplps, 300)
     require_told(said, command)
     assert said.status in (0, 1, 3)
-    if command[0] in ("canon", "look", "census"):
+    if command[0] in ("canon", "show", "files"):
         assert b"it isn't as it was when it was scanned" in said.err
 
 
@@ -186,7 +172,7 @@ def broken_zip(number):
 
 
 def test_of_the_broken_members_of_a_pack_the_first_are_named(run, tmp_path, store):
-    folder = os.path.join(str(tmp_path), "packs")
+    folder = str(tmp_path / "packs")
     os.mkdir(folder)
     few, many = (written(os.path.join(folder, name), broken_zip(number)) for name, number in (
         ("few.zip", MAX_BROKEN), ("many.zip", 500)))
@@ -195,8 +181,8 @@ def test_of_the_broken_members_of_a_pack_the_first_are_named(run, tmp_path, stor
     wanted.append("naplps-pages: %s: 500 of its members couldn't be read, of which 20 are named; `files` names all"
                   % many)
     for _ in range(2):
-        said = run(["scan", folder, "--into", store])
-        assert sorted(said.stderr.decode().splitlines()) == sorted(wanted) and said.returncode == 1
+        said = run(["scan", folder, "-o", store])
+        assert sorted(said.stderr.decode().splitlines()) == sorted(wanted) and said.returncode == 3
     assert run(["files", store, "--kind", "any"]).stdout.count(b": it is encrypted") == 500 + MAX_BROKEN
 
 
@@ -208,11 +194,6 @@ def held(store):
     return connection
 
 
-def copy_of(store):
-    """A copy of the one file."""
-    return shutil.copy(store, store + ".copy")
-
-
 class ReadScan:
     """A scan that goes on once it is let, so that its store can be read before it ends."""
 
@@ -220,7 +201,7 @@ class ReadScan:
         self.folder, self.store = folder, os.path.join(folder, "pages.db")
         self.go = os.path.join(folder, "go")
         tree(os.path.join(folder, "pages"), {"%d" % at: b"\x0f%d" % at for at in range(300)})
-        self.child = begun(["scan", "pages", "--into", "pages.db"], folder, fake(slow(600, self.go).replace(
+        self.child = begun(["scan", "pages", "-o", "pages.db"], folder, fake(slow(600, self.go).replace(
             "time.sleep(600)", "[time.sleep(0.01) for _ in iter(lambda: os.path.exists(%r), True)]" % self.go)))
         wait_until(lambda: os.path.exists(self.store + "-wal") and rows(self.store, "SELECT 1 FROM runs"))
 
@@ -243,7 +224,7 @@ def test_a_scan_that_ends_while_the_store_is_read_says_so(naplps, fake, tmp_path
     reader.close()
     said = forked(["files", "pages.db"], scan.folder, naplps)
     assert b"\nlog:" not in said.out and not os.path.exists(store + "-wal")
-    assert rows(copy_of(store), "SELECT count(*) FROM files") == [(300,)]
+    assert rows(shutil.copy(store, store + ".copy"), "SELECT count(*) FROM files") == [(300,)]
 
 
 @pytest.mark.parametrize("reads", ["nothing", "until the end"])
@@ -259,27 +240,8 @@ def test_a_store_is_whole_though_it_is_open(fake, tmp_path, store, reads):
         connection.execute("COMMIT")
     said = scan.end()
     assert said.status == 0 and said.err == b"", said
-    assert rows(copy_of(store), "SELECT count(*) FROM files") == [(300,)]
+    assert rows(shutil.copy(store, store + ".copy"), "SELECT count(*) FROM files") == [(300,)]
     connection.close()
-
-
-def test_only_its_owner_reads_a_store_with_texts(naplps, tmp_path, store):
-    folder = str(tmp_path)
-    tree(os.path.join(folder, "pages"), {"a": b"hello", "b": POINT})
-    before = os.umask(0o022)
-    try:
-        modes = []
-        for command in (["scan", "pages", "--into", "pages.db"], ["scan", "pages", "--into", "pages.db", "--words"],
-                        ["merge", "--into", "merged.db", "pages.db"]):
-            assert forked(command, folder, naplps).status == 0
-            made = os.path.join(folder, "merged.db") if command[0] == "merge" else store
-            modes.append(stat.S_IMODE(os.stat(made).st_mode))
-        os.chmod(store, 0o644)                      # (who lets others read it is heard)
-        assert forked(["scan", "pages", "--into", "pages.db", "--words"], folder, naplps).status == 0
-        modes.append(stat.S_IMODE(os.stat(store).st_mode))
-    finally:
-        os.umask(before)
-    assert modes == [0o644, 0o600, 0o600, 0o644]
 
 
 def spent(pid):
@@ -294,7 +256,7 @@ def spent(pid):
 def test_a_signal_ends_a_scan_of_a_long_store(naplps, tmp_path_factory, long_store, number, after):
     """Within two seconds of a processor, whatever it is at."""
     folder, store = long_store
-    child = begun(["scan", "pages", "--into", os.path.basename(store), "--words"], folder, naplps)
+    child = begun(["scan", "pages", "-o", os.path.basename(store)], folder, naplps)
     seen = 0.0
     while seen < after:
         time.sleep(0.02)
@@ -315,10 +277,7 @@ def long_store(tmp_path_factory):
     folder = str(tmp_path_factory.mktemp("long"))
     store = os.path.join(folder, "long.db")
     made_up(store, 0, int(os.environ.get("LONG_STORE", "100000")))
-    connection = sqlite3.connect(store)
-    connection.execute("INSERT INTO texts(page, terms, source, text) SELECT id, terms, 0, 'hello ' || hex(own) "
-                       "FROM pages")
-    connection.commit()
-    connection.close()
+    alter(store, "INSERT INTO texts(page, terms, source, text) SELECT id, terms, 0, 'hello ' || hex(own) FROM pages; "
+                 "INSERT INTO meta VALUES('words', 1)")
     tree(os.path.join(folder, "pages"), {"%d" % at: b"\x0f%d" % at for at in range(100)})
     return folder, store

@@ -15,6 +15,7 @@ from command import PACKAGES, bare
 from naplps.answers import Accepted, Refusal
 from naplps.client import Client
 from naplps_pages.collection import tables
+from naplps_pages.collection.store_files import is_held
 from naplps_pages.file_kinds import kind, looks_like
 from scans import (
     SMALL_FILES, FileRow, children, count, every_table, is_sound, mixed, rows, slow, start, table, tree, wait_until,
@@ -22,40 +23,25 @@ from scans import (
 from strategies import pages as made_pages
 
 
-@pytest.fixture
-def store(tmp_path):
-    return os.path.join(str(tmp_path), "pages.db")
-
-
 def test_any_number_of_processes_and_any_order(run, tmp_path):
     files = mixed(1500)
-    pages = tree(os.path.join(str(tmp_path), "pages"), files)
+    pages = tree(tmp_path / "pages", files)
     shuffled = list(files.items())
     random.Random(1).shuffle(shuffled)
-    copy = tree(os.path.join(str(tmp_path), "copy"), dict(shuffled))
+    copy = tree(tmp_path / "copy", dict(shuffled))
     found = []
     for top, processes in ((pages, 1), (pages, 2), (pages, 4), (copy, 3)):
         store = os.path.join(str(tmp_path), "%d.db" % processes)
-        said = run(["scan", top, "--into", store, "--processes", str(processes), "--cures"])
+        said = run(["scan", top, "-o", store, "-j", str(processes)], keeps="repair")
         assert said.returncode == 0 and said.stdout.startswith(b"1500 files: ")
         found.append(table(store, top))
     assert all(each == found[0] for each in found) and len(found[0]) == 1500
 
 
-def test_in_parts_and_in_one_go(run, tmp_path, store):
-    pages = tree(os.path.join(str(tmp_path), "pages"), mixed(500))
-    for part in ("03", "00", "04"):
-        assert run(["scan", os.path.join(pages, part), "--into", store]).returncode == 0
-    assert run(["scan", pages, "--into", store]).returncode == 0
-    other = store + ".other"
-    assert run(["scan", pages, "--into", other]).returncode == 0
-    assert table(store, pages) == table(other, pages)
-
-
 def test_the_answers_of_a_process_a_page(run, naplps, tmp_path, store):
     files = mixed(200)
-    pages = tree(os.path.join(str(tmp_path), "pages"), files)
-    assert run(["scan", pages, "--into", store]).returncode == 0
+    pages = tree(tmp_path / "pages", files)
+    assert run(["scan", pages, "-o", store]).returncode == 0
     wanted = [one(naplps, pages, name, data) for name, data in sorted(files.items())]
     assert table(store, pages) == wanted
 
@@ -77,35 +63,37 @@ def one(path, top, name, data):
 
 
 def test_killed_five_times_and_resumed(run, naplps, tmp_path, store):
-    pages = tree(os.path.join(str(tmp_path), "pages"), mixed(24_000))
+    pages = tree(tmp_path / "pages", mixed(24_000))
     taken = 0
     for least in (1, 2500, 5000, 7500, 10_000):
-        scan = start(["scan", pages, "--into", store, "--processes", "2"], naplps)
+        scan = start(["scan", pages, "-o", store, "-j", "2"], naplps)
         wait_until(lambda: count(store) >= least, scan)
+        workers = children(scan.pid)
         scan.kill()
         scan.communicate()
-        assert scan.returncode == -signal.SIGKILL and is_sound(store)
+        assert scan.returncode == -signal.SIGKILL and is_sound(store) and not is_held(store)
+        wait_until(lambda: not any(os.path.exists("/proc/%d" % each) for each in workers))
         assert taken <= count(store) < 24_000                   # (it was amid, and nothing that was taken is lost)
         taken = count(store)
     known = rows(store, "SELECT count(*) FROM files f JOIN pages p ON p.id = f.page")[0][0]
-    said = run(["scan", pages, "--into", store])
+    said = run(["scan", pages, "-o", store])
     assert known >= 10_000 and b"; %d known, " % known in said.stdout
     other = store + ".other"
-    assert run(["scan", pages, "--into", other]).returncode == 0
+    assert run(["scan", pages, "-o", other]).returncode == 0
     assert table(store, pages) == table(other, pages)
 
 
-COMMANDS = (["files"], ["equal"], ["find", "hello"], ["census"])
+COMMANDS = (["files"], ["equal"], ["find", "hello"], ["files", "--census"])
 
 
 def test_killed_at_twenty_moments_it_has_the_tables_of_one_that_was_not(run, naplps, tmp_path, store):
     """Between the scans a command makes the indices, or none does."""
-    pages = tree(os.path.join(str(tmp_path), "pages"), mixed(6000))
+    pages = tree(tmp_path / "pages", mixed(6000))
     # (a store whose first scan was killed before it began is still a new one)
-    words = ["scan", pages, "--no-words", "--no-cures", "--into"]
+    words = ["scan", pages, "--skip", "words", "--skip", "repair", "-o"]
     chance = random.Random(7)
     for number in range(20):
-        scan = start([*words, store, "--processes", "2"], naplps)
+        scan = start([*words, store, "-j", "2"], naplps)
         time.sleep(chance.random() * 0.8)
         scan.kill()
         scan.communicate()
@@ -136,28 +124,28 @@ cli.main(sys.argv[2:], "naplps-pages")"""
 @pytest.mark.parametrize("before, amid", [("''", "'SELECT 1'"), ("before", "'SELECT 1'"), ("''", "before")])
 @pytest.mark.parametrize("command", COMMANDS)
 def test_killed_before_its_indices_are_made(run, naplps, tmp_path, store, before, amid, command):
-    pages = tree(os.path.join(str(tmp_path), "pages"), mixed(100))
+    pages = tree(tmp_path / "pages", mixed(100))
     lines = KILLED.format(before=before, amid=amid)
-    words = bare(["scan", pages, "--into", store])
+    words = bare(["scan", pages, "-o", store])
     killed = subprocess.run([sys.executable, "-ESc", lines, PACKAGES, *words],
                             env={**os.environ, "NAPLPS": naplps})
     assert killed.returncode == -signal.SIGKILL and is_sound(store)
     indices = "SELECT name, sql FROM sqlite_master WHERE type = 'index' AND sql IS NOT NULL ORDER BY name"
     assert len(rows(store, indices)) == (before == "before")
     other = store + ".other"
-    assert run(["scan", pages, "--into", other]).returncode == 0
+    assert run(["scan", pages, "-o", other]).returncode == 0
     said, wanted = run([*command, store]), run([*command, other])
     assert said.stdout.replace(os.fsencode(store), b"") == wanted.stdout.replace(os.fsencode(other), b"") or (
         command == ["files"])                                   # (it says when the scan ended)
     assert rows(store, indices) == rows(other, indices) and is_sound(store)
-    assert run(["scan", pages, "--into", store]).returncode == 0
+    assert run(["scan", pages, "-o", store]).returncode == 0
     assert table(store, pages) == table(other, pages)
 
 
 def test_workers_that_are_killed_cost_nothing(run, fake, tmp_path, store):
-    pages, go = tree(os.path.join(str(tmp_path), "pages"), mixed(1000)), tmp_path / "go"
+    pages, go = tree(tmp_path / "pages", mixed(1000)), tmp_path / "go"
     program = fake(slow(0.05, go))
-    scan = start(["scan", pages, "--into", store, "--processes", "2"], program)
+    scan = start(["scan", pages, "-o", store, "-j", "2"], program)
     killed = set()
     for least in (1, 300, 600):    # (by then no file is tried alone, of those of a killed worker)
         wait_until(lambda: count(store) >= least and set(children(scan.pid)) - killed, scan)
@@ -168,7 +156,7 @@ def test_workers_that_are_killed_cost_nothing(run, fake, tmp_path, store):
     out, told = scan.communicate()
     assert (told, scan.returncode) == (b"", 0) and out.startswith(b"1000 files: ")
     other = store + ".other"
-    assert run(["scan", pages, "--into", other], program=program).returncode == 0
+    assert run(["scan", pages, "-o", other], program=program).returncode == 0
     assert table(store, pages) == table(other, pages)
 
 
@@ -212,7 +200,7 @@ def test_any_tree_gives_the_table_of_a_plain_reading(run, naplps, tmp_path_facto
     at = str(tmp_path_factory.mktemp("tree"))
     top, store = os.path.join(at, "top"), os.path.join(at, "pages.db")
     grow(os.fsencode(top), made)
-    assert run(["scan", top, "--into", store, "--processes", "2"]).returncode == 0
+    assert run(["scan", top, "-o", store, "-j", "2"]).returncode == 0
     program = Client(naplps)
     wanted = plainly(program, top)
     program.close()

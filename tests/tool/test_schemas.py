@@ -2,7 +2,6 @@
 and renewed by the next scan."""
 import json
 import os
-import shutil
 import sqlite3
 
 import pytest
@@ -12,8 +11,8 @@ from naplps_pages.collection.kept import CANON_TABLES
 from naplps_pages.collection.tables import NotAStore
 from naplps_pages.collection.store import StoreFailed, open_to_read, open_to_write, open_unchanged
 from samples import OUTSIDE, POINT, SPELLED, with_parity
-from scans import rows, tree
-from stores import COMMANDS, earlier
+from scans import alter, rows, store_of, tree
+from stores import copied, earlier
 
 # A page that is drawn, and then defines a macro in whose body another one seems to begin.
 SEVERAL = POINT + bytes.fromhex("1B40 21 1F 0C") + b"\x0f another\x1b\x45"
@@ -22,38 +21,30 @@ FILES = {"a/point.nap": POINT, "b/point.nap": SPELLED, "text": b"hello\r\n", "se
          "parity": with_parity(POINT), "cancel": b"\x0f" + POINT + b"\x0fA\x18B",
          "capture": POINT + b"\x18" + POINT, "twice": POINT + b"\x0c" + POINT,
          "pic.gif": b"GIF89a\x01\x02\x81", "gif.zip ": b"PK\x03\x04\x99"}
-STOPPED = (["equal"], ["equal", "--with", "copies"], ["files", "--refused"], ["refused", "--json"], ["census"],
-           ["status", "--csv"])
+STOPPED = (["equal"], ["equal", "--skip", "copies"], ["files", "--refused"], ["files", "--json"],
+           ["files", "--census"], ["files", "--csv"])
 WORDS = "SELECT type, name, sql FROM sqlite_master WHERE sql IS NOT NULL ORDER BY 1, 2"
 
 
 @pytest.fixture
-def pages(tmp_path):
-    return tree(os.path.join(str(tmp_path), "pages"), FILES)
+def store(run, tmp_path):
+    return store_of(run, tmp_path, FILES, keeps="repair")
 
 
 @pytest.fixture
-def store(run, tmp_path, pages):
-    store = os.path.join(str(tmp_path), "pages.db")
-    assert run(["scan", pages, "--into", store, "--cures"]).returncode == 0
-    return store
+def pages(store):
+    return os.path.join(os.path.dirname(store), "pages")
 
 
 @pytest.fixture
 def old(store, tmp_path):
-    return earlier(store, os.path.join(str(tmp_path), "old.db"))
+    return earlier(store, str(tmp_path / "old.db"))
 
 
 def listed(store, *columns):
     """Some columns of each file, by its name."""
     found = rows(store, "SELECT name, %s FROM listing" % ", ".join(columns))
     return {os.path.basename(name): row for name, *row in found}
-
-
-def held(path):
-    """The bytes of a file."""
-    with open(path, "rb") as file:
-        return file.read()
 
 
 @pytest.mark.parametrize("schema", [tables.SCHEMA, tables.EARLIER])
@@ -79,124 +70,79 @@ def test_a_capture_has_the_number_of_its_pages(store, run):
     (row,) = map(json.loads, said.stdout.splitlines())
     assert row["name"].endswith("/capture") and (row["kind"], row["pages"], row["treatments"]) == ("capture", 2, None)
     assert b"1: capture, of 2 pages" in run(["files", store]).stdout
-    it = json.loads(run(["status", store, "--json"]).stdout)
-    assert it["captures"] == {"files": 1, "pages": 2}
     assert json.loads(run(["check", "--json", row["name"]]).stdout)["pages"] == 2
     assert run(["check", row["name"]]).stdout == b"refused 6 LeftOut CAN at 5 (capture of 2 pages)\n"
 
 
 def test_a_treated_page_has_what_its_copy_draws(store, run, tmp_path):
-    said = run(["cures", "--into", os.path.join(str(tmp_path), "to"), *(
-        os.path.join(str(tmp_path), "pages", name) for name in ("parity", "cancel"))])
-    assert said.returncode == 1
+    said = run(["fix", "-o", str(tmp_path / "to"), *(str(tmp_path / "pages" / name) for name in ("parity", "cancel"))])
+    assert said.returncode == 0
     found = listed(store, "treatments", "grade", "treated_entries", "treated_hash", "treated_canonical",
                    "treated_canonical_size")
     for name, treatments, grade in (("parity", "parity", "around"), ("cancel", "can", "within")):
-        copy = held(os.path.join(str(tmp_path), "to", name))
-        it = json.loads(run(["check", "--json", os.path.join(str(tmp_path), "to", name)]).stdout)
-        canon = run(["canon", os.path.join(str(tmp_path), "to", name)]).stdout
-        assert found[name] == [treatments, grade, it["entries"], tables.hashed(copy).hex(), tables.hashed(canon).hex(),
-                               len(canon)]
+        copy = tmp_path / "to" / name
+        it, canon = json.loads(run(["check", "--json", str(copy)]).stdout), run(["canon", str(copy)]).stdout
+        assert found[name] == [treatments, grade, it["entries"], tables.hashed(copy.read_bytes()).hex(),
+                               tables.hashed(canon).hex(), len(canon)]
     assert found["out"] == found["point.nap"] == [None] * 6
-
-
-def test_a_store_of_the_schema_before_is_read(old, run, tmp_path):
-    before = held(old)
-    for command in COMMANDS:
-        name, *rest = command
-        if name in ("scan", "merge") or "OTHER" in rest:
-            continue
-        said = run([name, old, *[os.path.join(str(tmp_path), word) if word in ("canonical", "report.html") else word
-                                 for word in rest]])
-        assert said.returncode in (0, 1) and b"Error" not in said.stderr, (command, said)
-        for made in ("canonical", "report.html"):
-            path = os.path.join(str(tmp_path), made)
-            if os.path.isdir(path):
-                shutil.rmtree(path)
-            elif os.path.lexists(path):
-                os.unlink(path)
-    assert before == held(old)
 
 
 def test_one_that_was_stopped_is_read_too(old, store, run):
     wanted = [run([*words[:1], old, *words[1:]]).stdout for words in STOPPED]
     for path in (old, store):
-        connection = sqlite3.connect(path)
-        for name in ("pages_by_canon", "pages_by_number", "files_by_page"):
-            connection.execute("DROP INDEX " + name)
-        connection.close()
+        alter(path, "DROP INDEX pages_by_canon; DROP INDEX pages_by_number; DROP INDEX files_by_page")
     assert [run([*words[:1], old, *words[1:]]).stdout for words in STOPPED] == wanted
-    assert run(["equal", store, "--with", "treated"]).returncode == 0
+    assert run(["equal", store, "--include", "treated"]).returncode == 0
 
 
 def test_a_scan_renews_it(old, store, run, pages):
-    assert run(["scan", os.path.join(pages, "a"), "--into", old, "--cures"]).stdout.startswith((
+    assert run(["scan", os.path.join(pages, "a"), "-o", old], keeps="repair").stdout.startswith((
         b"1 file: 1 accepted (1 page)"))
     assert rows(old, WORDS) == rows(store, WORDS) and rows(old, "SELECT value FROM meta WHERE key = 'schema'") == [
         (str(tables.SCHEMA),)]
     assert listed(old, "kind", "pages")["capture"] == [None, None]
     assert b"13 of unknown kind" in run(["files", old]).stdout
-    said = run(["scan", pages, "--into", old, "--cures"])
+    said = run(["scan", pages, "-o", old], keeps="repair")
     assert b"; 1 known, 13 pages asked about" in said.stdout
     assert listed(old, "*") == listed(store, "*")
-    assert b"; 14 known, 0 pages asked about" in run(["scan", pages, "--into", old, "--cures"]).stdout
+    assert b"; 14 known, 0 pages asked about" in run(["scan", pages, "-o", old], keeps="repair").stdout
 
 
 def test_copies_that_may_lack_a_page_are_unknown_until_they_are_made_anew(store, tmp_path, run, pages):
-    connection = sqlite3.connect(store)
-    connection.execute("UPDATE cures SET treatments = 'tail+header' WHERE treatments = 'parity'")
-    connection.commit()
-    connection.close()
-    old = earlier(store, os.path.join(str(tmp_path), "old.db"))
-    said = run(["equal", old, "--with", "treated"])
+    alter(store, "UPDATE cures SET treatments = 'tail+header' WHERE treatments = 'parity'")
+    old = earlier(store, str(tmp_path / "old.db"))
+    said = run(["equal", old, "--include", "treated"])
     assert b"parity" not in said.stdout and b"for treated copies of 1 refused page it isn't known" in said.stderr
-    assert b"parity: treated by tail+header" in run(["equal", store, "--with", "treated"]).stdout
-    assert run(["scan", pages, "--into", old]).returncode == 0
-    assert b"parity: treated by parity (around)" in run(["equal", old, "--with", "treated"]).stdout
+    assert b"parity: treated by tail+header" in run(["equal", store, "--include", "treated"]).stdout
+    assert run(["scan", pages, "-o", old]).returncode == 0
+    assert b"parity: treated by parity (around)" in run(["equal", old, "--include", "treated"]).stdout
 
 
-@pytest.mark.parametrize("words", [["--cures"], ["--words"], ["--cures", "--words"]])
-def test_a_scan_keeps_to_the_options_of_those_before(run, tmp_path, pages, words):
+@pytest.mark.parametrize("keeps", ["repair", "words", "repair words"])
+def test_a_scan_keeps_to_what_those_before_kept(run, tmp_path, pages, keeps):
     store, whole, merged = (os.path.join(str(tmp_path), name) for name in ("kept.db", "whole.db", "merged.db"))
-    assert run(["scan", os.path.join(pages, "a"), "--into", store, *words]).returncode == 0
-    assert run(["scan", pages, "--into", store]).returncode == 0
-    assert run(["scan", pages, "--into", whole, *words]).returncode == 0
+    assert run(["scan", os.path.join(pages, "a"), "-o", store], keeps=keeps).returncode == 0
+    assert run(["scan", pages, "-o", store]).returncode == 0
+    assert run(["scan", pages, "-o", whole], keeps=keeps).returncode == 0
     for table in ("cures", "texts"):
         counts = [rows(path, f"SELECT count(*) FROM {table}") for path in (store, whole)]
         assert counts[0] == counts[1]
-        assert (counts[0] != [(0,)]) == ({"cures": "--cures", "texts": "--words"}[table] in words)
-    assert run(["merge", "--into", merged, store]).returncode == 0
+        assert (counts[0] != [(0,)]) == ({"cures": "repair", "texts": "words"}[table] in keeps)
+    assert run(["scan", "--merge", "-o", merged, store]).returncode == 0
     keys = "SELECT key FROM meta WHERE key IN ('cures', 'words') ORDER BY 1"
-    renewed = earlier_and_renewed(store, tmp_path, run, pages)
+    renewed = earlier(store, str(tmp_path / "before.db"))
+    assert run(["scan", pages, "-o", renewed]).returncode == 0
     assert rows(store, keys) == rows(merged, keys) == rows(renewed, keys) == [
-        (word[2:],) for word in words]
+        (word.replace("repair", "cures"),) for word in keeps.split()]
     assert b"left:            nothing" in run(["files", store]).stdout
 
 
-def earlier_and_renewed(store, tmp_path, run, pages):
-    """The store as one of the schema before had it, after another scan."""
-    old = earlier(store, os.path.join(str(tmp_path), "before.db"))
-    assert run(["scan", pages, "--into", old]).returncode == 0
-    return old
-
-
-def test_pages_without_a_text_are_told(run, tmp_path, pages):
-    parts = [os.path.join(str(tmp_path), name) for name in ("one.db", "other.db", "all.db")]
-    assert run(["scan", os.path.join(pages, "a"), "--into", parts[0]]).returncode == 0
-    assert run(["scan", os.path.join(pages, "text"), "--into", parts[1], "--words"]).returncode == 0
-    assert run(["merge", "--into", parts[2], *parts[:2]]).returncode == 0
-    assert b"1 without their text" in run(["files", parts[2]]).stdout
-    said = run(["find", "hello", parts[2]])
-    assert said.stdout.endswith(b"text: hello\n") and said.returncode == 0 and (
-        b"1 page has no text kept, and can't be found: the next scan keeps it" in said.stderr)
-
-
 def test_a_merge_takes_both_schemas(old, store, run, tmp_path, pages):
-    more = tree(os.path.join(str(tmp_path), "more"), {"text": b"hello\r\n", "parity": with_parity(POINT)})
+    more = tree(tmp_path / "more", {"text": b"hello\r\n", "parity": with_parity(POINT)})
     second, merged = (os.path.join(str(tmp_path), name) for name in ("more.db", "all.db"))
-    assert run(["scan", more, "--into", second, "--cures"]).returncode == 0
+    assert run(["scan", more, "-o", second], keeps="repair").returncode == 0
     for order in ((old, second), (second, old)):
-        assert run(["merge", "--into", merged, *order]).returncode == 0
+        assert run(["scan", "--merge", "-o", merged, *order]).returncode == 0
         kinds = dict(rows(merged, "SELECT name, kind FROM listing"))
         assert kinds[more + "/text"] == kinds[pages + "/text"] == "text" and kinds[pages + "/capture"] is None
         grades = dict(rows(merged, "SELECT name, grade FROM listing"))
@@ -221,8 +167,8 @@ def test_the_index_of_words(store, tmp_path, run):
     connection.close()
     for opened in (open_to_read, open_unchanged, open_to_write):
         opened(store).close()
-    merged = os.path.join(str(tmp_path), "all.db")
-    assert run(["merge", "--into", merged, store]).returncode == 0
+    merged = str(tmp_path / "all.db")
+    assert run(["scan", "--merge", "-o", merged, store]).returncode == 0
     assert rows(merged, "SELECT t.text, t.source, t.first FROM words w JOIN texts t ON t.page = w.rowid "
                         "WHERE words MATCH 'good'") == [("good day", tables.WHOLE, "good")]
 
@@ -235,11 +181,7 @@ def test_an_index_of_words_that_is_another(store):
                        ("DROP TABLE words_config; CREATE TABLE words_config(k PRIMARY KEY, v, w)",
                         "its table words_config"),
                        ("DROP TABLE words", "")):
-        bad = shutil.copy(store, store + ".bad")
-        connection = sqlite3.connect(bad)
-        connection.execute("PRAGMA writable_schema = ON")
-        connection.executescript(words)
-        connection.close()
+        bad = copied(store, store + ".bad", "PRAGMA writable_schema = ON; " + words)
         if why:
             for opened in (open_to_read, open_unchanged, open_to_write):
                 with pytest.raises(StoreFailed, match=why):

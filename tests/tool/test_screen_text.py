@@ -3,7 +3,6 @@ import pytest
 
 from naplps.screen_text import lines_of
 from naplps_pages.page_words import NoWords, first_words, lines_with, match_of, parse_query
-from stream_writer import StreamWriter
 
 LOOK = "colour=own-start text=0,0/%s/----"
 
@@ -78,13 +77,6 @@ def test_places_make_no_difference():
     placed = "".join("%d %s\n" % (place, line) for place, line in enumerate(page.splitlines()))
     assert lines_of(placed) == lines_of(page) == ["TODAY", "NEWS"]
     assert lines_of("") == []
-
-
-def test_a_page_of_the_program(run, tmp_path):
-    page = StreamWriter().clear().domain().at(0.1, 0.2, "BELOW").at(0.1, 0.6, "ABOVE").made()
-    listed = tmp_path / "page"
-    listed.write_bytes(page)
-    assert lines_of(run(["list", str(listed)]).stdout.decode()) == ["ABOVE", "BELOW"]
 
 
 @pytest.mark.parametrize("text, asked, found", [

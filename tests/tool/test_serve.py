@@ -12,15 +12,16 @@ import subprocess
 import time
 from concurrent.futures import ThreadPoolExecutor
 from contextlib import contextmanager
+from pathlib import Path
 
 import pytest
 
-from command import COMMAND, file
+from command import COMMAND
 from fake_programs import BATCH
 from naplps_pages.report.server import HEAD_SECONDS, MOST_DRAWERS
 from naplps_pages.report.sketch_workers import ENDED
 from samples import OUTSIDE, POINT, SPELLED
-from scans import children, rows, start, tree, wait_until
+from scans import children, every_table, start, tree, wait_until
 
 HOST = "127.0.0.1"
 FILES = "/files?text=&answer=&from=0&count=100"
@@ -47,13 +48,9 @@ class Served:
 
     def ask(self, path, method="GET", **headers):
         """The status, the headers and the body of an answer to what stands after the key."""
-        return self.ask_bare(self.key + path, method, **headers)
-
-    def ask_bare(self, path, method="GET", **headers):
-        """The same for a whole path."""
         connection = http.client.HTTPConnection(HOST, self.port, timeout=300)
         try:
-            connection.putrequest(method, path, skip_host=True, skip_accept_encoding=True)
+            connection.putrequest(method, self.key + path, skip_host=True, skip_accept_encoding=True)
             for name, value in {"Host": "127.0.0.1:%d" % self.port, **headers}.items():
                 for each in value if isinstance(value, list) else [value]:
                     connection.putheader(name.replace("_", "-"), each)
@@ -90,9 +87,9 @@ def archive(run, folder):
     top = tree(os.path.join(folder, "archive"), {
         "a.nap": POINT, "sub/b.nap": SPELLED, "sub/c.nap": POINT, "d.nap": OUTSIDE, "gone.nap": POINT + b"\x0a"})
     store = os.path.join(folder, "pages.db")
-    run(["scan", top, "--into", store])
+    run(["scan", top, "-o", store])
     os.unlink(os.path.join(top, "gone.nap"))
-    run(["scan", top, "--into", store])
+    run(["scan", top, "-o", store])
     return store
 
 
@@ -101,7 +98,7 @@ def served(naplps, tmp_path_factory):
     """A server that many tests ask."""
     def run(words):
         subprocess.run([COMMAND, *words], check=True, env=dict(os.environ, NAPLPS=naplps), capture_output=True)
-    with start(["serve", archive(run, str(tmp_path_factory.mktemp("served")))], naplps) as process:
+    with start(["report", archive(run, str(tmp_path_factory.mktemp("served"))), "--serve"], naplps) as process:
         yield Served(process)
         process.terminate()
 
@@ -109,7 +106,7 @@ def served(naplps, tmp_path_factory):
 @pytest.fixture
 def own(run, naplps, tmp_path):
     """A server of a collection that the test may change."""
-    with start(["serve", archive(run, str(tmp_path))], naplps) as process:
+    with start(["report", archive(run, str(tmp_path)), "--serve"], naplps) as process:
         yield Served(process)
         process.terminate()
 
@@ -146,9 +143,11 @@ def test_files_groups_and_details(served):
     told = served.json("/details?key=" + key(served, "d.nap"))
     assert told["refusal"]["means"].startswith("A point of the picture code") and told["equal"] is None
     assert served.json("/details?key=" + key(served, "a.nap"))["equal"]["files"] == 3
-    drawing = served.json("/drawing?key=" + key(served, "a.nap"))
+    drawing = served.drawing("a.nap")
     assert drawing["sketch"].startswith("<svg")
     assert drawing["lines"] == ["POINT 4194304,4194304 pel=0,0 colour=own-start"]
+    assert served.json("/thumbnail?key=" + key(served, "a.nap")) == {
+        "sketch": drawing["sketch"], "text": "", "why": "", "entries": 1}
 
 
 def test_a_page_is_found_by_its_hash(served):
@@ -170,12 +169,6 @@ def test_files_by_folder_and_by_group(served):
     of = {"a.nap": POINT, "sub/c.nap": POINT, "sub/b.nap": SPELLED}
     hashes = [hashlib.sha256(of[each["name"]]).hexdigest() for each in some[:3]]
     assert hashes == sorted(hashes) == [each["hash"] for each in some[:3]]
-
-
-def test_a_thumbnail(served):
-    drawing = served.json("/drawing?key=" + key(served, "a.nap"))
-    assert served.json("/thumbnail?key=" + key(served, "a.nap")) == {
-        "sketch": drawing["sketch"], "text": "", "why": "", "entries": 1}
 
 
 def test_the_head_of_an_answer(served):
@@ -212,8 +205,7 @@ def test_the_key_is_new_each_time_and_nowhere_else(own, served):
         status, headers, body = own.ask(path)
         assert headers["Referrer-Policy"] == "no-referrer" and headers["Cache-Control"] == "no-store"
         assert own.key[1:] not in str(headers) and own.key[1:].encode() not in body
-    with open("/proc/%d/cmdline" % own.process.pid, "rb") as words:
-        assert own.key[1:].encode() not in words.read()
+    assert own.key[1:].encode() not in Path("/proc/%d/cmdline" % own.process.pid).read_bytes()
     own.process.send_signal(signal.SIGTERM)
     assert own.process.communicate(timeout=300) == (b"", b"")
 
@@ -279,29 +271,22 @@ def test_this_machine_alone(served):
 
 def test_a_link_in_place_of_a_page_is_not_followed(own, tmp_path):
     at = key(own, "a.nap")
-    name = os.path.join(str(tmp_path), "archive", "a.nap")
-    os.unlink(name)
-    os.symlink("/etc/passwd", name)
+    page = tmp_path / "archive" / "a.nap"
+    page.unlink()
+    page.symlink_to("/etc/passwd")
     drawing = own.json("/drawing?key=" + at)
     assert (drawing["sketch"], drawing["text"], drawing["lines"], drawing["why"]) == ("", "", [], "a symbolic link")
-    os.unlink(name)
-    file(os.path.dirname(name), "a.nap", b"OTHER")
+    page.unlink()
+    page.write_bytes(b"OTHER")
     assert own.json("/drawing?key=" + at)["why"] == "it isn't as it was when it was scanned"
 
 
 def test_a_scan_meanwhile_is_shown(own, run, tmp_path):
     assert own.json(FILES)["total"] == 4
-    tree(os.path.join(str(tmp_path), "archive"), {"new/e.nap": POINT + b"\x07\x07"})
-    run(["scan", os.path.join(str(tmp_path), "archive"), "--into", os.path.join(str(tmp_path), "pages.db")])
+    top = tree(tmp_path / "archive", {"new/e.nap": POINT + b"\x07\x07"})
+    run(["scan", top, "-o", str(tmp_path / "pages.db")])
     assert [each["name"] for each in own.json("/files?text=new&answer=&from=0&count=9")["files"]] == ["new/e.nap"]
     assert b"<dd>5</dd>" in own.ask("/")[2]
-
-
-def test_clients_that_say_nothing_hold_up_nobody(served):
-    silent = [socket.create_connection((HOST, served.port), 300) for _ in range(20)]
-    assert served.ask("/")[0] == 200
-    for each in silent:
-        each.close()
 
 
 @pytest.mark.parametrize("number", [signal.SIGINT, signal.SIGTERM])
@@ -317,25 +302,22 @@ def test_a_signal_ends_it_and_the_program(own, number):
 
 def _is_dead(pid):
     try:
-        with open("/proc/%d/stat" % pid) as it:
-            return it.read().rsplit(")", 1)[1].split()[0] == "Z"
+        return Path("/proc/%d/stat" % pid).read_text("utf-8").rsplit(")", 1)[1].split()[0] == "Z"
     except OSError:
         return True
 
 
 def test_a_port_that_is_taken_is_told(served, run, tmp_path):
-    said = run(["serve", archive(run, str(tmp_path)), "--port", str(served.port)])
+    said = run(["report", archive(run, str(tmp_path)), "--serve", "--port", str(served.port)])
     assert (said.returncode, said.stderr.decode()) == (
         3, "naplps-pages: 127.0.0.1:%d: Address already in use\n" % served.port)
 
 
 def test_nothing_is_written(own, tmp_path):
-    before = rows(os.path.join(str(tmp_path), "pages.db"), "SELECT count(*) FROM sqlite_master")
-    names = sorted(os.listdir(str(tmp_path)))
+    before, names = every_table(tmp_path / "pages.db"), sorted(os.listdir(tmp_path))
     for path in ("/", FILES, "/groups?copies=1&from=0&count=5&names=8"):
         own.ask(path)
-    assert sorted(os.listdir(str(tmp_path))) == names
-    assert rows(os.path.join(str(tmp_path), "pages.db"), "SELECT count(*) FROM sqlite_master") == before
+    assert (every_table(tmp_path / "pages.db"), sorted(os.listdir(tmp_path))) == (before, names)
 
 
 # A program that thinks of some pages until a file is there.
@@ -357,27 +339,17 @@ def go(tmp_path):
     return tmp_path / "go"
 
 
-def slowly(run, fake, tmp_path, go, seconds):
-    """A server whose program thinks of six of nine pages until the file is there, where each may take so long."""
+@pytest.fixture
+def slow(run, fake, tmp_path, go, request):
+    """A server whose program thinks of six of nine pages until the file is there. Each may take as long as it takes,
+    or so many seconds as the test says."""
     top = tree(os.path.join(str(tmp_path), "slow"), {
         "%d.nap" % at: b"%d.." % at + (b"hang" if at < 6 else b"good") for at in range(9)})
     store, program = os.path.join(str(tmp_path), "slow.db"), fake(SLOW.replace("@GO@", str(go)))
-    assert run(["scan", top, "--into", store], program=program).returncode == 0
-    with start(["serve", store, "--seconds", seconds], program) as process:
+    assert run(["scan", top, "-o", store], program=program).returncode == 0
+    with start(["report", store, "--serve", "--timeout", getattr(request, "param", "900")], program) as process:
         yield Served(process)
         process.terminate()
-
-
-@pytest.fixture
-def slow(run, fake, tmp_path, go):
-    """One where each may take as long as it takes."""
-    yield from slowly(run, fake, tmp_path, go, "900")
-
-
-@pytest.fixture
-def short(run, fake, tmp_path, go):
-    """One where each may take eight seconds."""
-    yield from slowly(run, fake, tmp_path, go, "8")
 
 
 def programs(served):
@@ -404,26 +376,24 @@ def test_questions_are_answered_while_all_processes_draw(slow, go):
         assert [each.result()["entries"] for each in (*long, good)] == [7] * 7
 
 
-def test_many_long_drawings_end(short):
+@pytest.mark.parametrize("slow", ["8"], indirect=True)
+def test_many_long_drawings_end(slow):
     with ThreadPoolExecutor(7) as others:
-        long = [others.submit(short.drawing, "%d.nap" % at) for at in range(6)]
-        good = others.submit(short.drawing, "8.nap")
+        long = [others.submit(slow.drawing, "%d.nap" % at) for at in range(6)]
+        good = others.submit(slow.drawing, "8.nap")
         assert all(re.search("(no answer|isn't drawn) in 8 s$", each.result()["why"]) for each in long)
         assert good.result()["entries"] == 7
-    assert short.drawing("6.nap")["entries"] == 7
+    assert slow.drawing("6.nap")["entries"] == 7
 
 
-def test_a_drawer_that_is_killed_is_replaced(own):
+def test_drawers_are_there_before_pages_are_asked_for_and_one_that_is_killed_is_replaced(own):
+    wait_until(lambda: len(children(own.process.pid)) == MOST_DRAWERS)
     assert own.drawing("a.nap")["sketch"]
     drawers = children(own.process.pid)
     for drawer in drawers:
         os.kill(drawer, signal.SIGKILL)
     said = [own.drawing("a.nap")["why"] for _ in range(len(drawers) + 1)]
     assert said == [ENDED] * len(drawers) + [""] and own.drawing("a.nap")["sketch"]
-
-
-def test_drawers_are_there_before_pages_are_asked_for(own):
-    wait_until(lambda: len(children(own.process.pid)) == MOST_DRAWERS)
 
 
 def test_a_connection_is_kept_for_more(served):
@@ -460,28 +430,17 @@ def test_it_ends_amid_a_drawing(slow, number):
 
 def _memory(process):
     """The memory of a process, in MiB."""
-    with open(f"/proc/{process.pid}/status", encoding="ascii") as status:
-        return int(re.search(r"VmRSS:\s+(\d+)", status.read())[1]) >> 10
+    return int(re.search(r"VmRSS:\s+(\d+)", Path(f"/proc/{process.pid}/status").read_text("ascii"))[1]) >> 10
 
 
 def _processor(process):
     """The seconds of a processor that a process took."""
-    with open(f"/proc/{process.pid}/stat", encoding="ascii") as stat:
-        words = stat.read().rpartition(")")[2].split()
+    words = Path(f"/proc/{process.pid}/stat").read_text("ascii").rpartition(")")[2].split()
     return (int(words[11]) + int(words[12])) / os.sysconf("SC_CLK_TCK")
 
 
 def _connected(port, number):
     return [socket.create_connection((HOST, port), 60) for _ in range(number)]
-
-
-def _trickle(clients):
-    """Each of the clients that are still connected sends a byte."""
-    for each in clients:
-        try:
-            each.send(b"a")
-        except OSError:
-            pass
 
 
 def test_long_heads_take_no_memory(own):
@@ -490,10 +449,8 @@ def test_long_heads_take_no_memory(own):
     for _ in range(2):
         clients = _connected(own.port, 20)
         for each in clients:
-            try:
+            with unless_closed():  # (it is, as soon as it has sent 16 KiB)
                 each.sendall(b"GET /nokey/ HTTP/1.1\r\nHost: x\r\n" + more + b"\r\n")
-            except OSError:
-                pass  # (it is closed as soon as it has sent 16 KiB)
         assert own.ask("/")[0] == 200
         assert _memory(own.process) < before + 40
         for each in clients:
@@ -502,13 +459,17 @@ def test_long_heads_take_no_memory(own):
 
 @pytest.mark.parametrize("most", [None, 64])
 def test_slow_clients_lock_nobody_out(own, most):
-    """Also where the server has few descriptors: the user with the key is answered while 200 others send on."""
+    """Also where the server has few descriptors: the user with the key is answered while 200 others say nothing, and
+    while they send on."""
     if most is not None:
         resource.prlimit(own.process.pid, resource.RLIMIT_NOFILE, (most, most))
     clients = _connected(own.port, 200)
     before = _processor(own.process)
+    assert own.ask("/")[0] == 200
     for _ in range(5):
-        _trickle(clients)
+        for each in clients:
+            with unless_closed():
+                each.send(b"a")
         assert own.ask("/")[0] == own.ask(FILES)[0] == 200
         time.sleep(1)
     assert _processor(own.process) - before < 4

@@ -1,4 +1,4 @@
-"""Contact sheets, and pictures as PNG: what is in them, their bounds, and what is told where there is no librsvg."""
+"""Contact sheets: what is in them, their bounds, where they go, and what is told where there is no librsvg."""
 import os
 import shutil
 import struct
@@ -6,11 +6,13 @@ import struct
 import pytest
 
 from command import file
+from folders import files_in
 from naplps import drawing
 from naplps.drawing import paper
 from naplps_pages import messages
 from naplps_pages.pictures import MOST_PAGES, RSVG_CONVERT, ContactSheet, Tile
-from samples import OUTSIDE, POINT, has
+from samples import OUTSIDE, POINT, SPELLED, has
+from scans import tree
 from sketches import INK, SVG, parsed, tiles
 
 GLYPH = bytes.fromhex("1B 43 21 0E 26 52 1B 45 1B 2B 7B 1D 21")
@@ -18,15 +20,14 @@ needs_librsvg = pytest.mark.skipif(not has("rsvg-convert"), reason="there is no 
 
 
 def read(path):
-    with open(path, encoding="utf-8") as made:
-        return made.read()
+    return path.read_text("utf-8")
 
 
 def test_a_sheet_has_all_pages(run, tmp_path):
     names = [file(tmp_path, name, data) for name, data in (
         ("one", GLYPH), ("two", GLYPH), ("<b>&\n.nap", POINT), ("bad", OUTSIDE))]
-    path = os.path.join(str(tmp_path), "sheet.svg")
-    said = run(["look", *map(os.path.basename, names), "none", "-o", "sheet.svg"], cwd=str(tmp_path))
+    path = tmp_path / "sheet.svg"
+    said = run(["show", *map(os.path.basename, names), "none", "-o", "sheet.svg"], cwd=str(tmp_path))
     found = tiles(read(path))
     assert [told for told, _ in found] == [
         ["one", "accepted 4 entries"], ["two", "accepted 4 entries"], ["<b>&\\n.nap", "accepted 1 entries"],
@@ -35,15 +36,15 @@ def test_a_sheet_has_all_pages(run, tmp_path):
     assert found[3][1].find(SVG + "title").text == "bad: refused 10 Outside at 3"
     assert said.returncode == 3 and said.stdout == b"" and b"none: No such file" in said.stderr
     assert parsed(read(path)).find(SVG + "title").text == "Contact sheet of 4 pages"
-    again = run(["look", "one", "--sheet", "sheet.svg"], cwd=str(tmp_path))
+    again = run(["show", "one", "two", "-o", "sheet.svg"], cwd=str(tmp_path))
     assert again.returncode == 3
     assert again.stderr.endswith(b"is there already with other bytes, and isn't written over\n")
 
 
 def test_a_guess_in_a_sheet_is_told(run, tmp_path):
-    page, path = file(tmp_path, "bad", POINT + b"\x18" + POINT), os.path.join(str(tmp_path), "sheet.svg")
-    run(["look", page, "--past", "--sheet", path])
-    (told, picture), = tiles(read(path))
+    page, path = file(tmp_path, "bad", POINT + b"\x18" + POINT), tmp_path / "sheet.svg"
+    run(["show", page, file(tmp_path, "good", POINT), "--guess", "-o", str(path)])
+    (told, picture), _ = tiles(read(path))
     assert told[1].endswith("; then a guess") and picture.find(SVG + "title").text.endswith("; then a guess")
     assert [each.attrib["aria-label"] for each in picture.iter(SVG + "g") if "mask" in each.attrib] == ["a guess"]
 
@@ -87,12 +88,44 @@ def test_long_names_are_cut_in_their_midst():
 
 
 @pytest.mark.parametrize("words", [
-    ["a", "--png", "--svg", "f"], ["a", "--sheet", "f", "--into", "d"], ["a", "--sheet", "f", "--svg", "d"],
-    ["a", "--sheet", ""], ["a"] * (MOST_PAGES + 1) + ["--sheet", "f"], ["a", "b", "--png"]],
-    ids=["png svg", "sheet into", "sheet svg", "no name", "too many", "several"])
-def test_wrong_words(run, words):
-    said = run(["look", *words])
-    assert said.returncode == 2 and said.stdout == b""
+    ["a", "b", "-o", ""], ["a"] * (MOST_PAGES + 1) + ["-o", "f.svg"], ["a", "b"], ["a", "b", "--format", "png"],
+    ["a", "b", "-o", "-"], ["a", "b", "-o", "f.html"], ["a", "b", "-o", "f.apng"],
+    ["a", "b", "-o", "f.svg", "--scale", "2"]], ids=lambda words: " ".join(words)[-24:])
+def test_wrong_words(run, tmp_path, words):
+    for name in "ab":
+        file(tmp_path, name, POINT)
+    said = run(["show", *words], cwd=str(tmp_path))
+    assert (said.returncode, said.stdout) == (2, b"") and sorted(os.listdir(tmp_path)) == ["a", "b"]
+
+
+@pytest.mark.parametrize("out, made", [
+    ("to", {"to/a.svg", "to/b.svg"}), ("to/", {"to/a.svg", "to/b.svg"}), ("to.d", {"to.d/a.svg", "to.d/b.svg"}),
+    ("there", {"there/a.svg", "there/b.svg"}), ("there.svg", {"there.svg/a.svg", "there.svg/b.svg"}),
+    ("sheet.svg", {"sheet.svg"}), ("sheet.SVG", {"sheet.SVG"})])
+def test_where_pictures_go(run, tmp_path, out, made):
+    for name in ("there", "there.svg"):
+        (tmp_path / name).mkdir()
+    files = [file(tmp_path, name, POINT) for name in "ab"]
+    for _ in range(2):  # (what is there with the same bytes stays)
+        said = run(["show", *files, "-o", out], cwd=str(tmp_path))
+        assert (said.returncode, said.stdout, said.stderr) == (0, b"", b"")
+    assert set(map(os.fsdecode, files_in(tmp_path))) == {"a", "b", *made}
+
+
+@pytest.mark.parametrize("out", ["to", "sheet.svg"])
+def test_of_a_store_what_changed_is_told_and_not_shown(run, tmp_path, out):
+    pages = tree(tmp_path / "pages", {"a": POINT, "b": SPELLED, "c": OUTSIDE})
+    assert run(["scan", pages, "-o", str(tmp_path / "s.db")]).returncode == 0
+    words = ["show", str(tmp_path / "s.db"), "-o"]
+    assert run([*words, str(tmp_path / ("whole " + out))]).returncode == 1  # (a page is refused)
+    changed = file(pages, "b", POINT + POINT)
+    said = run([*words, str(tmp_path / out)])
+    told = f"naplps-pages: {changed}: it isn't as it was when it was scanned\n"
+    assert said.returncode == 1 and told in said.stderr.decode()
+    if out == "to":
+        assert sorted(os.listdir(tmp_path / "to")) == ["a.svg", "c.svg"]
+    else:
+        assert [names[0].rpartition("/")[2] for names, _ in tiles(read(tmp_path / out))] == ["a", "c"]
 
 
 def size_of(data):
@@ -103,30 +136,22 @@ def size_of(data):
 
 @needs_librsvg
 def test_png(run, tmp_path):
-    page, folder = file(tmp_path, "page", POINT), os.path.join(str(tmp_path), "to")
-    said = run(["look", page, "--png"])
-    assert said.returncode == 0 and size_of(said.stdout) == (1024, 828)
-    assert run(["look", page, "--png", "--into", folder]).returncode == 0
-    with open(os.path.join(folder, "page.png"), "rb") as made:
-        assert made.read() == said.stdout
-    path = os.path.join(str(tmp_path), "sheet.png")
-    assert run(["look", page, page, "--png", "-o", path]).returncode == 0
-    with open(path, "rb") as made:
-        size_of(made.read())
+    page = file(tmp_path, "page", POINT)
+    for name in ("sheet.svg", "sheet.png"):
+        assert run(["show", page, page, "-o", str(tmp_path / name)]).returncode == 0
+    sheet = parsed(read(tmp_path / "sheet.svg"))
+    assert size_of((tmp_path / "sheet.png").read_bytes()) == (int(sheet.get("width")), int(sheet.get("height")))
 
 
-def with_program(tmp_path, monkeypatch, text):
+def with_program(folder, monkeypatch, text):
     """A folder alone on PATH, with python3 and a rsvg-convert of this text, or none."""
-    binary = os.path.join(str(tmp_path), "bin")
-    os.mkdir(binary)
+    folder.mkdir()
     for name in ("python3", "sh", "env", "dirname", "readlink", "sleep"):
-        os.symlink(shutil.which(name), os.path.join(binary, name))
+        (folder / name).symlink_to(shutil.which(name))
     if text:
-        path = os.path.join(binary, "rsvg-convert")
-        with open(path, "w", encoding="ascii") as made:
-            made.write(text)
-        os.chmod(path, 0o755)
-    monkeypatch.setenv("PATH", binary)
+        (folder / "rsvg-convert").write_text(text, "ascii")
+        (folder / "rsvg-convert").chmod(0o755)
+    monkeypatch.setenv("PATH", str(folder))
 
 
 @pytest.mark.parametrize("text, told", [
@@ -135,18 +160,17 @@ def with_program(tmp_path, monkeypatch, text):
     ("#!/bin/sh\nexit 0\n", "rsvg-convert failed: "),
     ("#!/bin/sh\nexec sleep 600\n", "rsvg-convert didn't end in 8 s")])
 def test_where_librsvg_fails_there_is_a_message(run, tmp_path, monkeypatch, text, told):
-    page, sheet = file(tmp_path, "page", POINT), os.path.join(str(tmp_path), "sheet.png")
-    with_program(tmp_path, monkeypatch, text)
-    for words in ([], ["--sheet", sheet]):
-        said = run(["look", page, "--png", "--seconds", "8", *words])
-        assert said.returncode == 3 and said.stdout == b"" and told in said.stderr.decode(), said
-        assert not os.path.exists(sheet) and b"Traceback" not in said.stderr
+    page, sheet = file(tmp_path, "page", POINT), tmp_path / "sheet.png"
+    with_program(tmp_path / "bin", monkeypatch, text)
+    said = run(["show", page, page, "-o", str(sheet), "--timeout", "8"])
+    assert said.returncode == 3 and said.stdout == b"" and told in said.stderr.decode(), said
+    assert not sheet.exists() and b"Traceback" not in said.stderr
 
 
 def test_a_page_refused_before_anything_is_drawn_is_no_black_page(run, tmp_path):
     names = [file(tmp_path, name, data)
              for name, data in (("cut", b"\x1b"), ("some", POINT + b"\x1b"), ("blank", b""))]
-    run(["look", *map(os.path.basename, names), "-o", "sheet.svg"], cwd=str(tmp_path))
+    run(["show", *map(os.path.basename, names), "-o", "sheet.svg"], cwd=str(tmp_path))
     for (told, picture), fill in zip(tiles(read(tmp_path / "sheet.svg")), ("#2b3238", "#000000", "#000000")):
         assert picture.find(SVG + "rect").attrib["fill"] == fill, told
 
@@ -156,7 +180,7 @@ def test_names_without_a_common_folder_are_shown_from_their_ends(run, tmp_path):
     for name in names:
         os.makedirs(tmp_path / os.path.dirname(name))
         file(tmp_path, name, POINT)
-    run(["look", *names, str(tmp_path / "a/one.nap"), "-o", "sheet.svg"], cwd=str(tmp_path))
+    run(["show", *names, str(tmp_path / "a/one.nap"), "-o", "sheet.svg"], cwd=str(tmp_path))
     found = [told[0] for told, _ in tiles(read(tmp_path / "sheet.svg"))]
     assert found[:3] == ["a/one.nap", "../disk 1/folder/page.nap", "long long long .. long long .nap"]
     assert found[3].startswith("../") and found[3].endswith("/a/one.nap") and max(map(len, found)) <= 32

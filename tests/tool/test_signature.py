@@ -4,6 +4,7 @@ import re
 import shlex
 import subprocess
 import xml.etree.ElementTree as tree
+from pathlib import Path
 from random import Random
 
 import pytest
@@ -85,12 +86,8 @@ def test_by_file(tmp_path):
 def test_canonical_pages(run, tmp_path):
     chance = Random(7)
     paths = [file(tmp_path, "page %d" % number, picture(chance, number)) for number in range(50)]
-    to = os.path.join(str(tmp_path), "to")
-    assert run(["canon", *paths, "--into", to]).returncode == 0
-    some = []
-    for name in sorted(os.listdir(to)):
-        with open(os.path.join(to, name), "rb") as page:
-            some.append(page.read())
+    assert run(["canon", *paths, "-o", str(tmp_path / "to")]).returncode == 0
+    some = [page.read_bytes() for page in (tmp_path / "to").iterdir()]
     assert said_by_file(tmp_path, some) == [CANONICAL] * 50 == list(said_by_droid(some))
 
 
@@ -105,8 +102,8 @@ def test_what_is_missed(tmp_path):
 
 @needs_file
 def test_what_the_document_prints(naplps):
-    with open(os.path.join(TOP, "docs", "SIGNATURE.md"), encoding="utf-8") as document:
-        shown = re.findall(r"^    (?!# )(.*)\n    # (.*)\n", document.read(), re.MULTILINE)
+    document = Path(TOP, "docs", "SIGNATURE.md").read_text("utf-8")
+    shown = re.findall(r"^    (?!# )(.*)\n    # (.*)\n", document, re.MULTILINE)
     assert len(shown) == 2
     for command, printed in shown:
         words = command.replace("pages/naplps-pages", shlex.quote(COMMAND))

@@ -39,13 +39,9 @@ def test_sketches_are_harmless_and_the_same_from_the_canonical_page(asked, page)
     assert drawing.draw(again.body.decode().splitlines()).svg == svg
 
 
-def ends_of(path):
-    """The places at which the parts of a path begin and end."""
-    out = []
-    for letter, rest in re.findall(r"([MLAC])([^MLACZ]*)", path):
-        values = numbers(rest)
-        out.append(tuple(values[-2:]))
-    return out
+def steps(path):
+    """The letters of a path, each with its numbers, of which the last two are where it ends."""
+    return [(letter, numbers(rest)) for letter, rest in re.findall(r"([MLAC])([^MLACZ]*)", path)]
 
 
 @given(points=st.lists(POINTS, min_size=3, max_size=7), filled=st.booleans())
@@ -53,41 +49,31 @@ def ends_of(path):
 def test_each_point_of_an_arc_is_on_it(points, filled):
     places = on_page(points)
     path = arc_path(places, filled)
-    on = ends_of(path)
     for place in places:
-        assert min(math.dist(place, each) for each in on) < 0.01
+        assert min(math.dist(place, values[-2:]) for _, values in steps(path)) < 0.01
     assert path.endswith("Z") == filled
 
 
 @given(points=st.tuples(POINTS, POINTS, POINTS))
 @settings(max_examples=400, deadline=None)
 def test_an_arc_of_three_points_is_of_their_circle(points):
-    places = on_page(points)
-    path = arc_path(places, False)
-    for (x, y), (radius, large, sweep, a, b) in _arcs(path):
-        assert math.dist((x, y), (a, b)) <= 2 * radius + 0.05
-    sweeps = {sweep for _, (_, _, sweep, _, _) in _arcs(path)}
+    at, sweeps = (), set()
+    for letter, values in steps(arc_path(on_page(points), False)):
+        if letter == "A":
+            radius, _, _, _, sweep, *end = values
+            assert math.dist(at, end) <= 2 * radius + 0.05
+            sweeps.add(sweep)
+        at = values[-2:]
     assert len(sweeps) <= 1
 
 
-def _arcs(path):
-    at = None
-    for letter, rest in re.findall(r"([MLAC])([^MLACZ]*)", path):
-        values = numbers(rest)
-        if letter == "A":
-            yield at, (values[0], values[3], values[4], values[5], values[6])
-        at = tuple(values[-2:])
-
-
-def test_a_circle_has_its_diameter():
-    svg = drawing.draw(["ARC-FILLED 2097152,4194304 6291456,4194304 2097152,4194304 " + INK]).svg
-    path = elements(svg, "path")[0].attrib["d"]
-    assert path == "M256 288A256 256 0 0 1 768 288A256 256 0 0 1 256 288Z"
-
-
-def test_a_half_circle_goes_through_its_middle():
-    svg = drawing.draw(["ARC-OUTLINED 2097152,0 4194304,2097152 6291456,0 " + INK]).svg
-    assert elements(svg, "path")[0].attrib["d"] == "M256 800A256 256 0 0 1 512 544A256 256 0 0 1 768 800"
+@pytest.mark.parametrize("line, path", [
+    ("ARC-FILLED 2097152,4194304 6291456,4194304 2097152,4194304 ",
+     "M256 288A256 256 0 0 1 768 288A256 256 0 0 1 256 288Z"),
+    ("ARC-OUTLINED 2097152,0 4194304,2097152 6291456,0 ", "M256 800A256 256 0 0 1 512 544A256 256 0 0 1 768 800")],
+    ids=["a circle has its diameter", "a half circle goes through its middle"])
+def test_arcs(line, path):
+    assert elements(drawing.draw([line + INK]).svg, "path")[0].attrib["d"] == path
 
 
 def test_colours():

@@ -1,8 +1,6 @@
 """The bound of a sketch: its bytes, and what a browser has to draw, uses included; and what is seen where it ends."""
 import os
 import re
-import subprocess
-import sys
 
 import pytest
 from hypothesis import given, settings
@@ -13,6 +11,7 @@ from naplps import drawing
 from naplps.drawing import paper
 from naplps.drawing.walk import MOST_DRAWN, MOST_POINTS
 from naplps.entry import ONE
+from peaks import with_peak
 from sketches import HAND, INK, bomb, elements, harmless
 
 MOST_BYTES = 16 << 20
@@ -21,25 +20,13 @@ ENDS = "The picture ends before entry %d: with what follows it would be more tha
 FULL = "0,0 %d,%d" % (ONE - 1, ONE - 1)
 
 
-def looked(naplps, path, out):
-    """The sketch of a page, and the most memory that the command had, in bytes."""
-    # (the most memory of a process counts that of the one which started it)
-    lines = ("import resource, subprocess, sys; status = subprocess.run(sys.argv[2:], stdout=open(sys.argv[1], 'wb'))"
-             ".returncode; print(status, resource.getrusage(resource.RUSAGE_CHILDREN).ru_maxrss)")
-    output = subprocess.run([sys.executable, "-c", lines, out, COMMAND, "look", path], stdout=subprocess.PIPE,
-                            env=dict(os.environ, NAPLPS=naplps), check=True).stdout
-    status, memory = map(int, output.split())
-    assert status == 0
-    with open(out, encoding="utf-8") as svg:
-        return svg.read(), memory * 1024
-
-
 @pytest.mark.parametrize("kind", ["mask", "glyph"])
 def test_a_small_page_makes_no_large_picture(naplps, tmp_path, kind):
     path = file(tmp_path, "bomb.nap", bomb(kind, 400))
     assert os.path.getsize(path) < 14_000
-    svg, memory = looked(naplps, path, str(tmp_path / "x.svg"))
-    assert len(svg.encode()) <= MOST_BYTES and memory < MOST_MEMORY
+    said, memory = with_peak([COMMAND, "show", path], env=dict(os.environ, NAPLPS=naplps))
+    assert said.returncode == 0 and len(said.stdout) <= MOST_BYTES and memory < MOST_MEMORY
+    svg = said.stdout.decode()
     harmless(svg)
     used = svg.count("<use") if kind == "glyph" else svg.count('fill="url(')
     assert used * 95 * 2001 <= paper.MOST_WEIGHT
@@ -147,7 +134,7 @@ def test_a_mask_is_copied_where_that_is_little_and_else_referred_to():
 
 def test_a_bounded_picture_of_a_refused_page_says_both(run, tmp_path):
     path = file(tmp_path, "bomb.nap", bomb("glyph", 400) + b"\x18")
-    said = run(["look", path])
+    said = run(["show", path])
     told = [each.text for each in elements(said.stdout.decode(), "text")]
     assert said.returncode == 1 and re.fullmatch(r"Sketch of the first \d+ of \d+ entries; then refused .*", told[-2])
     assert told[-1].startswith("The picture ends before entry ")

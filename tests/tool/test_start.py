@@ -6,6 +6,7 @@ import signal
 import subprocess
 import sys
 import time
+from pathlib import Path
 
 import pytest
 
@@ -20,15 +21,15 @@ DIED = (-signal.SIGSEGV, -signal.SIGABRT, -signal.SIGXCPU)
 SECONDS = 20
 # It tells so of an object that goes, where memory lacks even for calling what the tool has set for that.
 IGNORED = b"Exception ignored "
-COMMANDS = (["--version"], ["--help"], ["check", "@"], ["list", "--json", "@"], ["look", "@"], ["text", "@"],
-            ["play", "@", "-o", "out"], ["census", "@"], ["cures", "@"], ["explain", "@"],
-            ["scan", ".", "--into", "../x.db"], ["files", "no.db"], ["find", "word", "no.db"],
+COMMANDS = (["--version"], ["--help"], ["check", "@"], ["check", "--explain", "@"], ["list", "--json", "@"],
+            ["show", "@"], ["show", "--format", "text", "@"], ["show", "@", "-o", "out.html"], ["fix", "@"], ["@"],
+            ["scan", ".", "-o", "../x.db"], ["files", "no.db"], ["find", "word", "no.db"],
             ["files", "no.db", "--refused"],
-            ["merge", "--into", "m.db", "no.db"], ["report", "no.db", "-o", "r.html"],
-            ["serve", "no.db", "--port", "0"])
+            ["scan", "--merge", "no.db", "-o", "m.db"], ["report", "no.db", "-o", "r.html"],
+            ["report", "no.db", "--serve"])
 
 
-@pytest.mark.parametrize("words", COMMANDS, ids=lambda words: words[0])
+@pytest.mark.parametrize("words", COMMANDS, ids=" ".join)
 def test_little_memory_is_one_line_and_status_3(naplps, tmp_path, words):
     folder = tmp_path / "folder"
     folder.mkdir()
@@ -46,13 +47,12 @@ def test_little_memory_is_one_line_and_status_3(naplps, tmp_path, words):
         elif IGNORED in said.stderr:
             ignored += 1
             assert said.returncode == 0 or b"naplps-pages: " in said.stderr, (kib, said)
-        elif said.returncode == 3:
+        elif said.returncode in (3, 70):  # (the latter where Python raises another error for want of memory)
             assert said.stderr.startswith(b"naplps-pages: ") and said.stderr.count(b"\n") <= 2, (kib, said)
-        elif words[0] == "scan" and said.returncode == 1:  # (a worker lacked it, for one file)
-            assert said.stderr.count(b"\n") == 1 and page.encode() in said.stderr, (kib, said)
+            assert said.returncode == 3 or b": the tool itself failed (" in said.stderr, (kib, said)
         else:
             assert (said.returncode, said.stderr) == (0, b""), (kib, said)
-        for made in ("out", "../x.db"):
+        for made in ("out.html", "../x.db"):
             if (folder / made).exists():
                 (folder / made).unlink()
     assert died <= 1 and ignored <= 1
@@ -151,9 +151,8 @@ HANDLERS = ("naplps_pages/__main__.py", "naplps_pages/cli.py", "naplps_pages/pag
 def test_a_handler_needs_no_memory(name):
     """Python numbers the instruction that failed for some handlers; beyond 256 that number needs memory, and where
     there is none it tries without an end. These functions are left by every exception."""
-    path = os.path.join(PACKAGES, name)
-    with open(path, encoding="utf-8") as file_:
-        codes = [compile(file_.read(), path, "exec")]
+    path = Path(PACKAGES, name)
+    codes = [compile(path.read_text("utf-8"), path, "exec")]
     for code in codes:
         codes += [each for each in code.co_consts if hasattr(each, "co_code")]
         beyond = [entry for entry in dis._parse_exception_table(code) if entry.lasti and entry.end // 2 > 256]

@@ -3,61 +3,42 @@ seconds; and a signal ends the long query of any other.
 """
 import collections
 import os
+import shutil
 import signal
 import sqlite3
 import subprocess
 import time
+from pathlib import Path
 
 import pytest
 
 from forked import HANGS, begun, counted, ended, forked, require_told, rounds
 from naplps_pages.collection import scan, sources, store, tables, texts
 from naplps_pages.collection.store import open_to_read, open_to_write, open_unchanged
-from scans import rows
-from stores import archive, clean, copied, words_of
+from scans import alter, rows
+from stores import Stores, copied
 
-COMMANDS = (["files"], ["files", "--refused"], ["files", "--json"], ["find"], ["equal"], ["equal", "--by", "picture"],
-            ["equal", "OTHER"], ["near"], ["census"], ["canon", "--into", "canonical"],
-            ["cures", "--into", "canonical"], ["look", "--into", "canonical"], ["report", "-o", "report.html"],
-            ["serve"], ["scan"], ["merge"])
+COMMANDS = (["files"], ["files", "--refused"], ["files", "--json"], ["find"], ["equal"], ["equal", "--pictures"],
+            ["equal", "OTHER"], ["equal", "--nearly"], ["files", "--census"], ["canon", "-o", "canonical"],
+            ["fix", "-o", "canonical"], ["show", "-o", "canonical"], ["report", "-o", "report.html"],
+            ["report", "--serve"], ["scan"], ["scan", "--merge"])
 SECONDS = 60
 NO_STORE = b"naplps-pages: bad.db: isn't a store of naplps-pages: its "
-
-
-class ForgedStore:
-    """A folder with a store that has texts, treatments, keys and pictures, and a copy of it that is changed."""
-
-    def __init__(self, folder, naplps):
-        self.folder, self.naplps, self.pages = folder, naplps, archive(folder)
-        self.good, self.bad = (os.path.join(folder, name) for name in ("good.db", "bad.db"))
-        for name in ("good.db", "other.db"):
-            words = ["scan", self.pages, "--into", name, "--words", "--cures", "--near", "--pictures"]
-            assert forked(words, folder, naplps).status == 0
-        with sqlite3.connect(os.path.join(folder, "other.db")) as connection:
-            connection.execute("UPDATE roots SET path = x'2F6F74686572'")
-
-    def words(self, command):
-        """The words of a command on the bad store."""
-        if command == ["find"]:
-            return ["find", "hello", "bad.db"]
-        return words_of(command, "bad.db", "other.db", self.pages)
-
-    def refused(self, command):
-        """What a command says of the bad store, which it leaves as it is."""
-        with open(self.bad, "rb") as file:
-            before = file.read()
-        said = forked(self.words(command), self.folder, self.naplps, SECONDS)
-        assert said.status == 3, (command, said)
-        with open(self.bad, "rb") as file:
-            assert file.read() == before, command
-        return said.err
 
 
 @pytest.fixture(scope="module")
 def made(tmp_path_factory, naplps):
     if not texts.has_fts5():
         pytest.skip("SQLite has no FTS5")
-    return ForgedStore(str(tmp_path_factory.mktemp("endless")), naplps)
+    return Stores(str(tmp_path_factory.mktemp("endless")), naplps, "--near", "--pictures", keeps="words repair")
+
+
+def refused(made, command):
+    """What a command says of the bad store, which it refuses and leaves as it is."""
+    before = Path(made.bad).read_bytes()
+    said = made.run(command, SECONDS)
+    assert said.status == 3 and Path(made.bad).read_bytes() == before, (command, said)
+    return said.err
 
 
 def statistics(*names):
@@ -77,18 +58,16 @@ CAPITALS = ("CREATE TABLE xqlite_stat1(tbl, idx, stat); PRAGMA writable_schema =
     ("ANALYZE", ["sqlite_stat1"]), (FORGED, ["sqlite_stat1"]), ("ANALYZE; " + FOURTH, ["sqlite_stat1", "sqlite_stat4"]),
     (CAPITALS, ["sqlite_stat1"])], ids=["honest", "forged", "fourth", "capitals"])
 def test_a_store_with_statistics_is_refused_with_the_words_that_remove_them(made, words, names):
-    copied(made.good, made.bad, words)
+    made.change(words)
     for command in COMMANDS:
-        assert made.refused(command) == statistics(*names), command
-    drops = "; ".join("DROP TABLE " + name for name in names)
-    with sqlite3.connect(made.bad) as connection:
-        connection.executescript(drops)
+        assert refused(made, command) == statistics(*names), command
+    alter(made.bad, "; ".join("DROP TABLE " + name for name in names))
     assert forked(["files", "bad.db"], made.folder, made.naplps).status == 0
 
 
 def test_the_words_that_remove_statistics_are_those_of_the_shell(made):
-    copied(made.good, made.bad, "ANALYZE; " + FOURTH)
-    line = made.refused(["files"]).decode().split("`")[1]
+    made.change("ANALYZE; " + FOURTH)
+    line = refused(made, ["files"]).decode().split("`")[1]
     try:
         subprocess.run(line, shell=True, cwd=made.folder, check=True)
     except subprocess.CalledProcessError:
@@ -100,19 +79,18 @@ def test_statistics_that_stand_in_the_log_alone(made):
     other = copied(made.good, os.path.join(made.folder, "logged.db"))
     connection = sqlite3.connect(other, isolation_level=None)
     connection.executescript("PRAGMA journal_mode = WAL; PRAGMA wal_autocheckpoint = 0; " + FORGED)
-    copied(made.good, made.bad)
+    made.change()
     for ending in ("", "-wal"):
-        with open(other + ending, "rb") as one, open(made.bad + ending, "wb") as two:
-            two.write(one.read())
+        shutil.copy(other + ending, made.bad + ending)
     connection.close()
-    for command in (["files"], ["scan"], ["merge"]):
-        said = forked(made.words(command), made.folder, made.naplps, SECONDS)
+    for command in (["files"], ["scan"], ["scan", "--merge"]):
+        said = made.run(command, SECONDS)
         assert said.status == 3 and said.err == statistics("sqlite_stat1"), (command, said)
 
 
 def test_scans_and_merges_make_no_statistics(made):
-    assert forked(["scan", made.pages, "--into", "good.db"], made.folder, made.naplps).status == 0
-    assert forked(["merge", "good.db", "--into", "joined.db"], made.folder, made.naplps).status == 0
+    assert forked(["scan", made.pages, "-o", "good.db"], made.folder, made.naplps).status == 0
+    assert forked(["scan", "--merge", "good.db", "-o", "joined.db"], made.folder, made.naplps).status == 0
     for name in ("good.db", "joined.db"):
         assert not rows(os.path.join(made.folder, name), "SELECT 1 FROM sqlite_master WHERE name LIKE 'sqlite_stat%'")
 
@@ -126,8 +104,7 @@ class Pages:
     """The pages of a file, to which others are added."""
 
     def __init__(self, path):
-        with open(path, "rb") as file:
-            self.data = bytearray(file.read())
+        self.data = bytearray(Path(path).read_bytes())
         self.path, self.size = path, int.from_bytes(self.data[16:18], "big")
 
     def page(self, number):
@@ -171,8 +148,7 @@ class Pages:
     def write(self, root, page):
         self.data[(root - 1) * self.size:root * self.size] = page
         self.data[28:32] = (len(self.data) // self.size).to_bytes(4, "big")
-        with open(self.path, "wb") as file:
-            file.write(self.data)
+        Path(self.path).write_bytes(self.data)
 
 
 def endless(path, name):
@@ -203,19 +179,20 @@ def objects():
 @pytest.mark.parametrize("name", objects())
 def test_pages_that_are_no_tree(made, name):
     """By each command for those that most of them read, and by those that write or only read for all."""
-    copied(made.good, made.bad)
+    made.change()
     if not endless(made.bad, name):
         pytest.skip("it has no row here")
     kind = "index" if name in tables.INDEXED or name.startswith("sqlite_") else "table"
-    commands = COMMANDS if name in ("pages", "folders", "files_by_page") else (["files"], ["find"], ["scan"], ["merge"])
+    commands = COMMANDS if name in ("pages", "folders", "files_by_page") else (
+        ["files"], ["find"], ["scan"], ["scan", "--merge"])
     for command in commands:
-        assert made.refused(command) == NO_STORE + b"%s %s has more rows than the file can hold\n" % (
+        assert refused(made, command) == NO_STORE + b"%s %s has more rows than the file can hold\n" % (
             kind.encode(), name.encode()), command
 
 
 def test_a_schema_without_an_end(made):
     """Rows of keys, which say nothing but where these are, may stand there again and again."""
-    copied(made.good, made.bad)
+    made.change()
     some = Pages(made.bad)
     first = some.page(1)
     assert first[100] == TABLE_INTERIOR
@@ -228,14 +205,14 @@ def test_a_schema_without_an_end(made):
     root = some.made(TABLE_INTERIOR, [leaf.to_bytes(4, "big") + b"\1" for leaf in leaves], some.add(top), 100)
     some.write(1, first[:100] + root[100:])
     for command in COMMANDS:
-        assert made.refused(command) == NO_STORE + b"schema has more rows than the file can hold\n", command
+        assert refused(made, command) == NO_STORE + b"schema has more rows than the file can hold\n", command
 
 
 def test_statistics_without_an_end(made):
-    copied(made.good, made.bad, "ANALYZE")
+    made.change("ANALYZE")
     assert endless(made.bad, "sqlite_stat1")
     for command in COMMANDS:
-        assert made.refused(command).startswith(b"naplps-pages: bad.db: "), command
+        assert refused(made, command).startswith(b"naplps-pages: bad.db: "), command
 
 
 def pointers(some):
@@ -249,7 +226,7 @@ def pointers(some):
 
 def test_pages_that_lead_to_others_by_chance(made):
     """No command hangs, and none fails but as the manual page says."""
-    copied(made.good, made.bad)
+    made.change()
     some = Pages(made.bad)
     places, count = list(pointers(some)), len(some.data) // some.size
     counts = collections.Counter()
@@ -258,11 +235,9 @@ def test_pages_that_lead_to_others_by_chance(made):
         for _ in range(chance.choice((1, 2, 5))):
             at = chance.choice(places)
             data[at:at + 4] = chance.randrange(1, count + 1).to_bytes(4, "big")
-        command = chance.choice([each for each in COMMANDS if each != ["serve"]])
-        with open(made.bad, "wb") as file:
-            file.write(data)
-        clean(made.folder)
-        said = forked(made.words(command), made.folder, made.naplps, SECONDS)
+        command = chance.choice([each for each in COMMANDS if each != ["report", "--serve"]])
+        Path(made.bad).write_bytes(data)
+        said = made.run(command, SECONDS)
         require_told(said, command, seed)
         counts[command[0], said.status] += 1
     counted(counts, "pages that lead to others")
@@ -275,8 +250,7 @@ ENDLESS = "WITH RECURSIVE c(x) AS (SELECT 1 UNION ALL SELECT x + 1 FROM c) SELEC
 def at_work(path):
     """What tells that it is at work, and then is it for ever."""
     def works(connection, *_):
-        with open(path, "wb"):
-            pass
+        Path(path).touch()
         connection.execute(ENDLESS).fetchall()
     return works
 
@@ -297,14 +271,14 @@ def signalled(made, words, path, numbers):
 
 
 @pytest.mark.parametrize("number", [signal.SIGINT, signal.SIGTERM])
-@pytest.mark.parametrize("command", [each for each in COMMANDS if each[0] not in ("scan", "merge")],
+@pytest.mark.parametrize("command", [each for each in COMMANDS if each[0] != "scan"],
                          ids=lambda words: words[0] + "".join(words[1:2]))
 def test_a_signal_ends_a_long_query(made, monkeypatch, tmp_path, command, number):
     """It ends the command as any other: by the signal, with no other word."""
     path = str(tmp_path / "at work")
     for module in (store, sources):
         monkeypatch.setattr(module, "show_present", at_work(path))
-    copied(made.good, made.bad)
+    made.change()
     assert signalled(made, made.words(command), path, [number]) == (-number, b"", b"")
 
 
@@ -312,15 +286,15 @@ def test_a_signal_ends_a_long_query(made, monkeypatch, tmp_path, command, number
 def test_a_signal_ends_what_a_merge_looks_for(made, monkeypatch, tmp_path, number):
     path = str(tmp_path / "at work")
     monkeypatch.setattr(sources, "require_right", at_work(path))
-    copied(made.good, made.bad)
-    assert signalled(made, made.words(["merge"]), path, [number]) == (-number, b"", b"")
+    made.change()
+    assert signalled(made, made.words(["scan", "--merge"]), path, [number]) == (-number, b"", b"")
     assert not os.path.exists(os.path.join(made.folder, "merged.db"))
 
 
 def test_a_second_signal_ends_the_long_query_of_a_scan(made, monkeypatch, tmp_path):
     path = str(tmp_path / "at work")
     monkeypatch.setattr(scan, "keep", at_work(path))
-    copied(made.good, made.bad)
+    made.change()
     said = signalled(made, made.words(["scan"]), path, [signal.SIGINT, signal.SIGINT])
     assert said.status == -signal.SIGINT and said.err == (
         b"naplps-pages: stopped; what was taken is kept, and the same command goes on\n")
@@ -329,7 +303,7 @@ def test_a_second_signal_ends_the_long_query_of_a_scan(made, monkeypatch, tmp_pa
 @pytest.mark.parametrize("opened", [open_to_read, open_unchanged, open_to_write])
 def test_each_connection_looks_for_signals(made, opened):
     """(What is raised amid a callback of SQLite is lost, so the query ends with SQLite's own error.)"""
-    copied(made.good, made.bad)
+    made.change()
     connection = opened(made.bad)
     store.ENDING.number = signal.SIGINT
     try:
@@ -343,5 +317,5 @@ def test_each_connection_looks_for_signals(made, opened):
 def test_what_hangs_is_known(made, monkeypatch, tmp_path):
     """(That none of the commands above hangs is seen by this.)"""
     monkeypatch.setattr(store, "show_present", lambda _: time.sleep(60))
-    copied(made.good, made.bad)
+    made.change()
     assert forked(["files", "bad.db"], made.folder, made.naplps, 1).status == HANGS

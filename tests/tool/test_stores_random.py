@@ -8,18 +8,19 @@ import os
 import shutil
 import signal
 import sqlite3
-import time
 import urllib.error
 import urllib.request
+from pathlib import Path
 
 import pytest
 
 from folders import OBSTACLES, remove, states
-from forked import begun, counted, ended, forked, require_told, rounds
+from forked import begun, counted, ended, require_told, rounds
 from naplps_pages.collection import tables
 from naplps_pages.collection.store_files import ENDINGS
 from packers import written
-from stores import COMMANDS, archive, clean, copied, words_of
+from scans import wait_until
+from stores import COMMANDS, Stores
 
 ROUNDS = 40
 PATHS = ("/", "/dev/zero!/", "/proc/self/mem", "../../x", "/etc/passwd!/", "a/b")
@@ -32,20 +33,14 @@ OBJECTS = ("CREATE VIEW v AS SELECT 1", "CREATE TRIGGER t AFTER DELETE ON pages 
            "CREATE TABLE own(a INTEGER PRIMARY KEY AUTOINCREMENT, b AS (a + 1), CHECK(b > a))",
            "CREATE TABLE \"FILES of\"(x); CREATE INDEX g ON \"FILES of\"((hex(x)))")
 # What a command may make or change, by how its name begins.
-MADE = ("bad.db", "more.db", "kept.db", "canonical", "report.html", "merged.db", "out", "err")
+MADE = ("bad.db", "other.db", "kept.db", "canonical", "report.html", "merged.db", "out", "err")
 
 
 @pytest.fixture(scope="module")
-def folder(tmp_path_factory, naplps):
-    """A folder with pages and two stores of them, of which one tells of another place."""
-    at = str(tmp_path_factory.mktemp("stores"))
-    pages = archive(at)
-    for store in ("good.db", "other.db"):
-        assert forked(["scan", pages, "--into", store, "--cures"], at, naplps).status == 0
-    copied(os.path.join(at, "other.db"), os.path.join(at, "more.db"),
-           "UPDATE roots SET path = x'2F6F74686572'; UPDATE folders SET path = CAST('/other/' || id AS BLOB)")
-    written(os.path.join(at, "victim"), b"precious" * 1000)
-    return at
+def made(tmp_path_factory, naplps):
+    stores = Stores(str(tmp_path_factory.mktemp("stores")), naplps, keeps="repair")
+    written(os.path.join(stores.folder, "victim"), b"precious" * 1000)
+    return stores
 
 
 def value(chance):
@@ -105,9 +100,8 @@ def beside(chance, victim):
     return some
 
 
-def make(chance, good, path):
-    """A store changed by chance."""
-    copied(good, path)
+def make(chance, path):
+    """Changes a store by chance."""
     connection = sqlite3.connect(path, isolation_level=None)
     for _ in range(chance.choice((0, 1, 1, 2, 5))):
         try:
@@ -125,16 +119,10 @@ ASKED = ("", "groups?copies=1&from=0&count=50&names=8", "files?text=&answer=&fro
 
 def address(folder, child):
     """Where a served report stands; nothing where the process has ended."""
-    for _ in range(60_000):
-        if os.path.exists(os.path.join(folder, "out")):
-            with open(os.path.join(folder, "out"), encoding="ascii") as file:
-                line = file.readline()
-            if line.endswith("\n"):
-                return line.strip()
-        if os.waitid(os.P_PID, child, os.WEXITED | os.WNOHANG | os.WNOWAIT):
-            return None
-        time.sleep(0.002)
-    raise AssertionError("it neither serves nor ends")
+    out = Path(folder, "out")
+    wait_until(lambda: out.exists() and b"\n" in out.read_bytes() or os.waitid(
+        os.P_PID, child, os.WEXITED | os.WNOHANG | os.WNOWAIT))
+    return out.read_text("ascii").strip()
 
 
 def asked(at):
@@ -146,22 +134,22 @@ def asked(at):
         return error.code, error.read()
 
 
-def served(folder, naplps, seed, counts):
+def served(made, seed, counts):
     """Serves the bad store, and asks for all that there is: each question is answered."""
-    child = begun(["serve", "bad.db", "--port", "0"], folder, naplps)
-    at = address(folder, child)
+    child = begun(["report", "bad.db", "--serve", "--port", "0"], made.folder, made.naplps)
+    at = address(made.folder, child)
     for what in ASKED if at else ():
         status, body = asked(at + what)
         assert status in (200, 404, 500) and b"Traceback" not in body, (seed, what, status, body)
-        counts["serve answers", status] += 1
+        counts["answers", status] += 1
         for file in json.loads(body)["files"][:3] if what.startswith("files") and status == 200 else ():
             for name in ("details", "drawing"):
                 status, body = asked("%s%s?key=%s" % (at, name, file["key"]))
                 assert status in (200, 404, 500) and b"Traceback" not in body, (seed, name, file, status, body)
-                counts["serve answers", status] += 1
+                counts["answers", status] += 1
     if at:
         os.kill(child, signal.SIGTERM)
-    said = ended(child, folder)
+    said = ended(child, made.folder)
     assert said.status == (-signal.SIGTERM if at else 3), (seed, said)
     if not at:
         require_told(said, "serve", seed)
@@ -173,31 +161,33 @@ def untouched(folder):
     return {name: what for name, what in states(folder).items() if not name.startswith(MADE)}
 
 
-def test_random_stores(folder, naplps):
+def alone(store):
+    """Takes away what stands beside a store."""
+    for each in ENDINGS:
+        remove(store + each)
+
+
+def test_random_stores(made):
     counts = collections.Counter()
-    bad, pages = os.path.join(folder, "bad.db"), os.path.join(folder, "pages")
+    kept = os.path.join(made.folder, "kept.db")
     for seed, chance in rounds(ROUNDS):
-        for each in ENDINGS:
-            remove(bad + each)
-        make(chance, os.path.join(folder, "good.db"), bad)
-        shutil.copy(bad, os.path.join(folder, "kept.db"))
-        some = beside(chance, os.path.join(folder, "victim"))
-        before = untouched(folder)
+        alone(made.bad)
+        make(chance, made.change())
+        shutil.copy(made.bad, kept)
+        some = beside(chance, os.path.join(made.folder, "victim"))
+        before = untouched(made.folder)
         for command in chance.sample((*COMMANDS, None), 5):
-            for each in ENDINGS:
-                remove(bad + each)
-            shutil.copy(os.path.join(folder, "kept.db"), bad)
+            alone(made.bad)
+            shutil.copy(kept, made.bad)
             for ending, place in some.items():
-                place(bad + ending)
-            clean(folder)
+                place(made.bad + ending)
             if command is None:
-                served(folder, naplps, seed, counts)
+                served(made, seed, counts)
                 continue
-            said = forked(words_of(command, "bad.db", "more.db", pages), folder, naplps)
+            said = made.run(command)
             require_told(said, command, seed)
             counts[command[0], said.status] += 1
-        for each in ENDINGS:
-            remove(bad + each)
-        assert untouched(folder) == before, seed
+        alone(made.bad)
+        assert untouched(made.folder) == before, seed
     counted(counts, "random stores")
     assert sum(counts.values()) >= 5 * ROUNDS and len({status for _, status in counts}) > 1

@@ -15,7 +15,7 @@ def lines(*rows):
 def test_lines_are_those_of_the_screen_from_top_to_bottom(run, tmp_path):
     page = StreamWriter().domain().at(0.1, 0.4, "THREE").raw(0x0D, 0x0A).text("FOUR")
     page.at(0.5, 0.5, "TWO").at(0.1, 0.5, "ONE")
-    said = run(["text", file(tmp_path, "page", page.made())])
+    said = run(["show", "--format", "text", file(tmp_path, "page", page.made())])
     assert said.stdout.decode() == "ONE  TWO\nTHREE\nFOUR\n"
 
 
@@ -32,6 +32,6 @@ def test_text_inside_a_glyph_isnt_text():
 
 def test_of_a_refused_page_the_text_before(run, tmp_path):
     path = file(tmp_path, "page", b"HELLO" + OUTSIDE)
-    said = run(["text", path])
+    said = run(["show", "--format", "text", path])
     assert (said.stdout, said.returncode) == (b"HELLO\n", 1)
     assert said.stderr.endswith(b"page: refused 10 Outside at 8; the text is what comes before\n")

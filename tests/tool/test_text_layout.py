@@ -69,23 +69,17 @@ def test_a_word_goes_to_the_next_line_whole():
     assert rows(lines, 0.1, 0.3 + 4 * HIGH) == [(0, 0, "THE FERRY "), (1, 0, "ANNOUNCED "), (2, 0, "IT")]
 
 
-def test_without_the_flag_words_are_split():
-    lines = field(0.1, 0.3, 10, 4) + typed("THE FERRY ANNOUNCED IT")
-    assert rows(lines, 0.1, 0.3 + 4 * HIGH) == [(0, 0, "THE FERRY "), (1, 0, "ANNOUNCED "), (2, 0, "IT")]
-    lines = field(0.1, 0.3, 8, 4) + typed("THE FERRY ANNOUNCED IT")
-    assert rows(lines, 0.1, 0.3 + 4 * HIGH) == [(0, 0, "THE FERR"), (1, 0, "Y ANNOUN"), (2, 0, "CED IT")]
-
-
-def test_a_blank_that_has_no_room_is_left_out():
-    lines = field(0.1, 0.3, 9, 4) + typed("THE FERRY  GOES", "--w-")
-    assert rows(lines, 0.1, 0.3 + 4 * HIGH) == [(0, 0, "THE FERRY"), (1, 0, "GOES")]
-    lines = field(0.1, 0.3, 9, 4) + typed("THE FERRY ", "--w-") + moved("APR") + moved("APD") + typed("GOES", "--w-")
-    assert rows(lines, 0.1, 0.3 + 4 * HIGH) == [(0, 0, "THE FERRY"), (1, 0, "GOES")]
-
-
-def test_a_word_that_is_longer_than_a_line_is_split():
-    lines = field(0.1, 0.3, 8, 4) + typed("A LONGESTWORD B", "--w-")
-    assert rows(lines, 0.1, 0.3 + 4 * HIGH) == [(0, 0, "A LONGES"), (1, 0, "TWORD B")]
+@pytest.mark.parametrize("columns, entries, wanted", [
+    (10, typed("THE FERRY ANNOUNCED IT"), ["THE FERRY ", "ANNOUNCED ", "IT"]),
+    (8, typed("THE FERRY ANNOUNCED IT"), ["THE FERR", "Y ANNOUN", "CED IT"]),
+    (9, typed("THE FERRY  GOES", "--w-"), ["THE FERRY", "GOES"]),
+    (9, typed("THE FERRY ", "--w-") + moved("APR") + moved("APD") + typed("GOES", "--w-"), ["THE FERRY", "GOES"]),
+    (8, typed("A LONGESTWORD B", "--w-"), ["A LONGES", "TWORD B"])],
+    ids=["without the flag", "words are split", "a blank that has no room is left out", "and where moves follow it",
+         "a word longer than a line is split"])
+def test_lines_of_a_field(columns, entries, wanted):
+    lines = field(0.1, 0.3, columns, 4) + entries
+    assert rows(lines, 0.1, 0.3 + 4 * HIGH) == [(row, 0, text) for row, text in enumerate(wanted)]
 
 
 def test_a_word_is_one_over_colours_and_accents():

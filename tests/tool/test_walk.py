@@ -6,19 +6,25 @@ import pytest
 
 from naplps_pages.collection import folders, search, tables
 from naplps_pages.collection.progress import Counting
-from naplps_pages.collection.protocol import FolderFiles, WorkerOptions
+from naplps_pages.collection.protocol import FolderFiles
 from naplps_pages.collection.search import apart
-from naplps_pages.collection.worker import Worker
 from samples import POINT, SPELLED
-from scans import FAKE, rows, tree
+from scans import FAKE, files_read, replaced_by_link, rows, tree
 
 NOTHING = search.Hidden(None, frozenset())
 DEEP = 40
 NAME = b"d" * 250
 
 
+@pytest.fixture
+def top(tmp_path):
+    """A folder with a page, which is taken away with all that was made in it."""
+    yield tree(tmp_path / "top", {"page": POINT})
+    subprocess.run(["rm", "-rf", str(tmp_path / "top")], check=True)  # (shutil.rmtree would recurse)
+
+
 def dig(top, depth=DEEP):
-    """A folder whose path is longer than the system takes, with a page in it; its path."""
+    """Makes a folder whose path is longer than the system takes, with pages in it; its path."""
     path, at = os.fsencode(top), os.open(top, os.O_RDONLY)
     for _ in range(depth):
         os.mkdir(NAME, dir_fd=at)
@@ -33,56 +39,32 @@ def dig(top, depth=DEEP):
     return path
 
 
-def fill_in(path):
-    """Takes such a folder away, from its end on."""
-    while len(path) > len(NAME) * 2:
-        above, _, name = path.rpartition(b"/")
-        if name != NAME:
-            return
-        at = folders.opened(path)
-        for each in os.listdir(at):
-            os.unlink(each, dir_fd=at)
-        os.close(at)
-        at = folders.opened(above)
-        os.rmdir(name, dir_fd=at)
-        os.close(at)
-        path = above
-
-
-def test_a_folder_that_is_too_deep_is_a_row(run, tmp_path, monkeypatch):
+def test_a_folder_that_is_too_deep_is_a_row(run, top, store):
     """Each row has its whole path, so a store would grow with the square of the depth."""
-    top, store = tree(os.path.join(str(tmp_path), "top"), {"page": POINT}), os.path.join(str(tmp_path), "pages.db")
-    path = dig(top, 300)
-    try:
-        said = run(["scan", top, "--into", store])
-        longest = max((each for each, in rows(store, "SELECT path FROM folders WHERE state = 0")), key=len)
-        assert search.MAX_PATH - 251 < len(longest) <= search.MAX_PATH == 65536
-        assert said.stdout == (
-            b"1 file: 1 accepted (1 page), 0 refused; 0 known, 1 page asked about; 1 folder unreadable\n")
-        assert said.stderr.decode() == "naplps-pages: %s: its path is longer than 65536 bytes\n" % os.fsdecode(
-            longest + b"/" + NAME) and said.returncode == 1
-        assert rows(store, "SELECT path, why FROM folders WHERE state = 1") == [
-            (longest + b"/" + NAME, "its path is longer than 65536 bytes")]
-        assert os.path.getsize(store) < 20 << 20
-    finally:
-        fill_in(path)
+    dig(top, 300)
+    said = run(["scan", top, "-o", store])
+    longest = max((each for each, in rows(store, "SELECT path FROM folders WHERE state = 0")), key=len)
+    assert search.MAX_PATH - 251 < len(longest) <= search.MAX_PATH == 65536
+    assert said.stdout == (
+        b"1 file: 1 accepted (1 page), 0 refused; 0 known, 1 page asked about; 1 folder unreadable\n")
+    assert said.stderr.decode() == "naplps-pages: %s: its path is longer than 65536 bytes\n" % os.fsdecode(
+        longest + b"/" + NAME) and said.returncode == 3
+    assert rows(store, "SELECT path, why FROM folders WHERE state = 1") == [
+        (longest + b"/" + NAME, "its path is longer than 65536 bytes")]
+    assert os.path.getsize(store) < 20 << 20
 
 
-def test_a_path_that_is_too_long_for_the_system(run, tmp_path):
-    top, store = tree(os.path.join(str(tmp_path), "top"), {"page": POINT}), os.path.join(str(tmp_path), "pages.db")
+def test_a_path_that_is_too_long_for_the_system(run, top, store, tmp_path):
     path = dig(top)
-    try:
-        assert len(path) > os.pathconf(top, "PC_PATH_MAX")
-        said = run(["scan", top, "--into", store])
-        assert (said.stdout, said.stderr) == ((
-            b"3 files: 3 accepted (3 pages), 0 refused; 0 known, 2 pages asked about\n"), b"")
-        assert b"; 3 known, 0 pages" in run(["scan", top, "--into", store]).stdout
-        assert (path,) in rows(store, "SELECT path FROM folders")
-        assert run(["equal", store, "--verify"]).stdout == run(["equal", store]).stdout
-        said = run(["canon", store, "--into", os.path.join(str(tmp_path), "to")])
-        assert (said.stdout, said.stderr) == (b"1 written, 0 there\n", b"")
-    finally:
-        fill_in(path)
+    assert len(path) > os.pathconf(top, "PC_PATH_MAX")
+    said = run(["scan", top, "-o", store])
+    assert (said.stdout, said.stderr) == (
+        b"3 files: 3 accepted (3 pages), 0 refused; 0 known, 2 pages asked about\n", b"")
+    assert b"; 3 known, 0 pages" in run(["scan", top, "-o", store]).stdout
+    assert (path,) in rows(store, "SELECT path FROM folders")
+    assert run(["equal", store, "--verify"]).stdout == run(["equal", store]).stdout
+    said = run(["canon", store, "-o", str(tmp_path / "to")])
+    assert (said.stdout, said.stderr) == (b"1 written, 0 there\n", b"")
 
 
 LEVELS, BESIDE = 5000, 100
@@ -103,7 +85,7 @@ def levels(tmp_path_factory):
         at = below
     os.close(at)
     yield top
-    subprocess.run(["rm", "-rf", top], check=True)  # (shutil.rmtree would recurse)
+    subprocess.run(["rm", "-rf", top], check=True)
 
 
 def open_files():
@@ -126,53 +108,33 @@ def test_a_worker_reads_many_levels_with_few_open_folders(levels, fake):
     root = os.fsencode(levels)
     chunk = tuple(FolderFiles(level, root + b"/d" * level, (b"x",), None, len(root))
                   for level in (*range(0, LEVELS + 1, BESIDE), *range(LEVELS, -1, -BESIDE)))
-    before, most, found = open_files(), [0], []
-    worker = Worker(WorkerOptions(fake(FAKE), 0, 600, 1 << 20), lambda hashes: set(),
-                    lambda: most.append(open_files()))
-    for files, _ in worker.pieces(chunk):
-        found += [file.folder for file in files if file.state == tables.READ]
-    worker.close()
-    assert found == [each.folder for each in chunk]
+    before, most = open_files(), [0]
+    found = files_read(fake(FAKE), chunk, beat=lambda: most.append(open_files()))
+    assert [(file.folder, file.state) for file in found] == [(each.folder, tables.READ) for each in chunk]
     assert max(most) - before <= 60 and open_files() == before
-
-
-def exchanged(folder, outside):
-    """Puts a link to another folder in the place of a folder, as somebody may while it is searched."""
-    os.rename(folder, folder + "-moved")
-    os.symlink(outside, folder)
 
 
 @pytest.fixture
 def swapped(tmp_path):
     """A folder in which `top` is to be exchanged, and another one with the same folders."""
-    root = tree(os.path.join(str(tmp_path), "root"), {"top/a/in": b"a", "top/b/in": b"b", "top/b/p.tar": b"p"})
-    outside = tree(os.path.join(str(tmp_path), "outside"), {"a/secret": b"s", "b/secret": b"s", "b/p.tar": b"s"})
+    root = tree(tmp_path / "root", {"top/a/in": b"a", "top/b/in": b"b", "top/b/p.tar": b"p"})
+    outside = tree(tmp_path / "outside", {"a/secret": b"s", "b/secret": b"s", "b/p.tar": b"s"})
     return root, outside
 
 
-def test_a_folder_above_that_becomes_a_link_is_not_followed(swapped):
+@pytest.mark.parametrize("most_open, taken, last", [
+    (folders.MOST_OPEN, 2, (b"/top/b", tables.READ, (b"in",), (b"p.tar",))),
+    # (of a deep tree a folder above is open no longer once the walk comes back to it)
+    (1, 3, (b"/top/b", tables.VANISHED, (), ()))])
+def test_a_folder_above_that_becomes_a_link_is_not_followed(swapped, monkeypatch, most_open, taken, last):
     root, outside = swapped
+    monkeypatch.setattr(folders, "MOST_OPEN", most_open)
     steps = search.walk(os.fsencode(root), NOTHING)
-    found = [next(steps), next(steps)]
-    exchanged(os.path.join(root, "top"), outside)
+    found = [next(steps) for _ in range(taken)]
+    replaced_by_link(os.path.join(root, "top"), outside)
     found += steps
-    assert [(each.path[len(root):], each.state, each.names) for each in found] == [
-        (b"", tables.READ, ()), (b"/top", tables.READ, ()), (b"/top/a", tables.READ, (b"in",)),
-        (b"/top/b", tables.READ, (b"in",))]
-    assert found[3].packs == (b"p.tar",)
-
-
-def test_a_link_in_place_of_a_folder_that_is_opened_again_is_not_followed(swapped, monkeypatch):
-    """Of a deep tree a folder above is open no longer once the walk comes back to it."""
-    root, outside = swapped
-    monkeypatch.setattr(folders, "MOST_OPEN", 1, raising=False)
-    steps = search.walk(os.fsencode(root), NOTHING)
-    found = [next(steps), next(steps), next(steps)]
-    exchanged(os.path.join(root, "top"), outside)
-    found += steps
-    assert [(each.path[len(root):], each.state, each.names) for each in found] == [
-        (b"", tables.READ, ()), (b"/top", tables.READ, ()), (b"/top/a", tables.READ, (b"in",)),
-        (b"/top/b", tables.VANISHED, ())]
+    assert [(each.path[len(root):], each.state, each.names, each.packs) for each in found] == [
+        (b"", tables.READ, (), ()), (b"/top", tables.READ, (), ()), (b"/top/a", tables.READ, (b"in",), ()), last]
 
 
 def test_files_are_counted_in_the_named_folder_alone(swapped, monkeypatch):
@@ -186,7 +148,7 @@ def test_files_are_counted_in_the_named_folder_alone(swapped, monkeypatch):
     def meanwhile(which):
         listed = scandir(which)
         if os.path.samestat(os.stat(which), status) and not os.path.islink(top):
-            exchanged(top, outside)
+            replaced_by_link(top, outside)
         return listed
     monkeypatch.setattr(os, "scandir", meanwhile)
     counting = Counting([os.fsencode(root)])
@@ -203,7 +165,7 @@ def test_paths_in_pieces():
 def test_a_folder_that_is_in_itself(tmp_path, monkeypatch):
     tree(tmp_path, {"a/b/page": POINT, "c/page": POINT})
     of_top = os.stat(str(tmp_path)).st_ino
-    of_b = os.stat(os.path.join(str(tmp_path), "a", "b")).st_ino
+    of_b = os.stat(str(tmp_path / "a" / "b")).st_ino
     # (as a file system may show it that has the top folder once more below itself)
     monkeypatch.setattr(search, "_identity", lambda status: (0, of_top if status.st_ino == of_b else status.st_ino))
     found = [(each.path[len(str(tmp_path)):], each.state, each.why) for each in

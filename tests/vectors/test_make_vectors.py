@@ -11,6 +11,7 @@ HEAD = "## A title.\n\n# control a bell: A bell.\n"
 BELL = Answer(None, False, 1, 1, 0, True, [0], b"\x0E\x21\x5F\x07", b"\x0E\x21\x5F\x07", ["BELL"])
 REFUSED = Answer("refused 17 Budget at 0", True, 1, 0, 0, False, [], None, None, [])
 ROW = "07 | BELL | 0E 21 5F 07 | plain, places 0\n"
+TITLE = "# control a bell: Another.\n"
 
 
 @pytest.fixture
@@ -29,31 +30,23 @@ def read_as(monkeypatch: pytest.MonkeyPatch, first: List[Answer], second: List[A
         monkeypatch.setattr(make_vectors, name, lambda *_, value=value: list(value))
 
 
-@pytest.mark.parametrize("row, expected, output", [
-    ("07 | ? | ? | ?\n", ROW, ""),
-    (ROW, ROW, ""),
-    ("07 | MOVE | 0E 21 5F 07 | plain, places 0\n", ROW, "bells.rows:4: the row is another now\n"),
-    ("(07 08)*1 | ? | ? | budget 5\n", "(07 08)*1 | BELL | 0E 21 5F 07 | plain, budget 5, places 0\n", ""),
-    ("| ? | ? | ?\n", " | BELL | 0E 21 5F 07 | plain, places 0\n", ""),
-], ids=["empty", "same", "another", "budget", "no-bytes"])
-def test_rows(vectors: Path, monkeypatch: pytest.MonkeyPatch, capsys: "pytest.CaptureFixture[str]", row: str,
-              expected: str, output: str) -> None:
-    """The answers of a row are written, and its stream, its budget and all other lines stay."""
-    vectors.write_text(HEAD + row, "ascii")
-    read_as(monkeypatch, [BELL], [BELL], [told_of(BELL)])
+@pytest.mark.parametrize("rows, answers, expected, output", [
+    ("07 | ? | ? | ?\n", [BELL], ROW, ""),
+    (ROW, [BELL], ROW, ""),
+    ("07 | MOVE | 0E 21 5F 07 | plain, places 0\n", [BELL], ROW, "bells.rows:4: the row is another now\n"),
+    ("(07 08)*1 | ? | ? | budget 5\n", [BELL], "(07 08)*1 | BELL | 0E 21 5F 07 | plain, budget 5, places 0\n", ""),
+    ("| ? | ? | ?\n", [BELL], " | BELL | 0E 21 5F 07 | plain, places 0\n", ""),
+    (f"07 | ? | ? | ?\n{TITLE}07 | ? | ? | budget 0\n", [BELL, REFUSED],
+     f"{ROW}{TITLE}07 |  | refused 17 Budget at 0 | not plain, budget 0, fed 1\n", ""),
+], ids=["empty", "same", "another", "budget", "no-bytes", "two"])
+def test_rows(vectors: Path, monkeypatch: pytest.MonkeyPatch, capsys: "pytest.CaptureFixture[str]", rows: str,
+              answers: List[Answer], expected: str, output: str) -> None:
+    """The answers of each row are written, and its stream, its budget and all other lines stay."""
+    vectors.write_text(HEAD + rows, "ascii")
+    read_as(monkeypatch, answers, answers, [*map(told_of, answers)])
     assert make_vectors.main() == 0
     assert vectors.read_text("ascii") == HEAD + expected
-    assert capsys.readouterr().out == f"{output}bells.rows: 1 vectors\n"
-
-
-def test_each_row_has_its_answer(vectors: Path, monkeypatch: pytest.MonkeyPatch) -> None:
-    """Two rows have the first answer and the second."""
-    title = "# control a bell: Another.\n"
-    vectors.write_text(f"{HEAD}07 | ? | ? | ?\n{title}07 | ? | ? | budget 0\n", "ascii")
-    read_as(monkeypatch, [BELL, REFUSED], [BELL, REFUSED], [told_of(BELL), told_of(REFUSED)])
-    assert make_vectors.main() == 0
-    refused = "07 |  | refused 17 Budget at 0 | not plain, budget 0, fed 1\n"
-    assert vectors.read_text("ascii") == HEAD + ROW + title + refused
+    assert capsys.readouterr().out == f"{output}bells.rows: {len(answers)} vectors\n"
 
 
 @pytest.mark.parametrize("differs", range(3), ids=["first", "second", "program"])

@@ -13,9 +13,10 @@ import pytest
 from dev.layout import TOP
 from dev.vectors.batch import Body, Request, answers
 from dev.vectors.form import has_form
-from dev.vectors.notation import bytes_of, lines_of, numbers_of
+from dev.vectors.notation import bytes_of, numbers_of
 from dev.vectors.profile import Row, read_profile, row_named
 from dev.vectors.rows import FOLDER, Vector, files, vectors_of
+from dev.vectors.wanted import parted, wanted_of
 
 BY_DEVICES = {
     ("refusal", "21"), ("refusal", "22"), ("limit", "reads of one input, the one that finds the end included"),
@@ -75,11 +76,12 @@ def test_rows_of_the_profile(accepted: bool) -> None:
 
 @pytest.fixture(scope="module")
 def sections(naplps: str) -> Dict[str, Tuple[int, int, str]]:
-    """What vectors/run prints without the name of a file: of each file how many are right, of how many, and which
-    aren't."""
+    """What vectors/run prints without the name of a file: of each file of streams, and no other, how many are right, of
+    how many, and which aren't."""
     run = subprocess.run([str(FOLDER / "run"), naplps], stdout=subprocess.PIPE, encoding="ascii", errors="replace")
     found = re.findall(r"((?:FAILED .*\n  .*\n)*)(\S+): (\d+) of (\d+)\n", run.stdout)
     assert re.search(r"^\d+ passed, \d+ failed\n\Z", run.stdout, re.MULTILINE), run.stdout[-2000:]
+    assert [name for _, name, *_ in found] == [file.stem for file in files()]
     return {name: (int(right), int(count), failed) for failed, name, right, count in found}
 
 
@@ -88,11 +90,6 @@ def test_run(sections: Dict[str, Tuple[int, int, str]], file: Path) -> None:
     """The program passes vectors/run."""
     right, count, failed = sections[file.stem]
     assert right == count == len(read(file)), f"{right} of {count} are right:\n{failed[:2000]}"
-
-
-def test_run_tries_no_other_files(sections: Dict[str, Tuple[int, int, str]]) -> None:
-    """vectors/run tries all files of streams, and no others, where none is named."""
-    assert list(sections) == [file.stem for file in files()]
 
 
 def test_run_of_lines(naplps: str) -> None:
@@ -110,23 +107,14 @@ def test_run_names_what_fails() -> None:
     assert run.stdout.endswith(f"\nplain: 0 of {count}\n0 passed, {count} failed\n"), run.stdout[-200:]
 
 
-def wrong_in(vector: Vector, check: Body, shown: Body, canon: Body, placed: Body) -> Iterator[str]:
-    """What is wrong with the answers of `batch` to the four requests of a vector."""
-    lines, accepted = lines_of(vector.list), vector.accepted
-    line = f"accepted {len(lines)} entries" if accepted else vector.ending
-    for command, body in zip(COMMANDS, (check, shown, canon, placed)):
-        if body.line != line:
+def wrong_in(vector: Vector, bodies: List[Body]) -> Iterator[str]:
+    """What is wrong with the answers of `batch` to the requests of a vector."""
+    *others, placed = bodies
+    places, entries = parted(placed.data)
+    expected = wanted_of(vector)
+    for command, body in zip(COMMANDS, [*others, Body(placed.line, entries)]):
+        if body != expected[command]:
             yield f"{command}: {body.line}"
-    if check.data:
-        yield "check has a body"
-    if shown.data.decode().splitlines() != (lines if accepted else []):
-        yield "list"
-    if canon.data != (bytes_of(vector.ending) if accepted else b""):
-        yield "canon"
-    entries = [entry.partition(" ") for entry in placed.data.decode().splitlines()]
-    if [entry for _, _, entry in entries] != lines:
-        yield "the entries of places"
-    places = [int(place) for place, _, _ in entries]
     if "places" in vector.more and places != numbers_of(vector.more["places"]):
         yield f"places {places[:20]}"
 
@@ -138,7 +126,7 @@ def test_batch(naplps: str, file: Path) -> None:
         [(command, vector.budget, vector.data) for command in COMMANDS] for vector in read(file))
     # (answers come first, so that they continue to their end after the last vector)
     trials = zip(answers([naplps, "batch"], requests), read(file))
-    none([f"{vector.place}: {wrong}" for bodies, vector in trials for wrong in wrong_in(vector, *bodies)])
+    none([f"{vector.place}: {wrong}" for bodies, vector in trials for wrong in wrong_in(vector, bodies)])
 
 
 @by_file

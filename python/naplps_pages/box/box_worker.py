@@ -24,7 +24,7 @@ from ..collection.progress import Progress
 from ..collection.protocol import BlockMaker, Piece, WorkerOptions, serve
 from ..collection.tables import Answered, Cured
 from ..collection.worker import KnownHashes, Knows, Worker
-from ..commands.split import MOST_PAGES, has_a_page, parts_of
+from ..fixing.split import MOST_PAGES, has_a_page, parts_of
 from ..listing import LIST, PLACES
 from ..notes import treatment_members
 from ..page_finder import CarvedPage, PageFinder, all_pages

@@ -11,7 +11,7 @@ from typing import Iterator, List, Optional, Type
 from naplps.names import as_json, shown
 from naplps.version import VERSION
 
-from .. import TOOL, messages
+from .. import STORE_OF_BOX, TOOL, messages
 from ..collection.folders import reason
 from ..collection.store_files import Busy, Lock
 from ..console import NotWritten
@@ -19,7 +19,7 @@ from ..new_files import make_folder, put_inside
 from ..notes import note_bytes, read_note
 
 # What stands in it: the marker; the store and what is kept beside it; what people look at; and the folders of pages.
-MARKER, STORE, KEPT = "box.json", "box.db", "pages.db"
+MARKER, STORE, KEPT = "box.json", STORE_OF_BOX, "kept.db"
 REPORT, TABLE, CUT = "index.html", "files.csv", "cut.csv"
 CANONICAL, READABLE, CAPTURES, CARVED = "canonical", "readable", "captures", "carved"
 FILES, FOLDERS = (MARKER, STORE, KEPT, REPORT, TABLE, CUT), (CANONICAL, READABLE, CAPTURES, CARVED)

@@ -15,7 +15,7 @@ from contextlib import suppress
 from dataclasses import dataclass, field
 from typing import Callable, Dict, Iterator, List, NamedTuple, Optional, Set, Tuple
 
-from naplps.answers import Accepted, Answer, Refusal, Unanswered, read_line
+from naplps.answers import Answer, Refusal, Unanswered, read_line
 from naplps.client import find
 from naplps.ending import Stopped
 from naplps.limits import MOST_PAGE
@@ -28,7 +28,7 @@ from ..collection import equal, every_file, tables
 from ..collection.every_file import FileFacts
 from ..collection.file_reader import Otherwise, Seen, read
 from ..collection.folders import absolute, reason
-from ..collection.kept import refused_by
+from ..collection.kept import skipped_by
 from ..collection.pool import processors
 from ..collection.printing import Printer, numbered, shown_as
 from ..collection.protocol import Retry, WorkerOptions, block_of
@@ -38,7 +38,7 @@ from ..collection.search import apart
 from ..collection.session import Names
 from ..collection.status import SHUT, UNKNOWN, WORDS, Status, status
 from ..collection.store import StoreFailed, open_to_read
-from ..console import COMPLETE, SOME_LACK, NotWritten, Output, tell, tell_of
+from ..console import CHANGED, COMPLETE, FAILED, NotWritten, Output, tell, tell_of
 from ..free_names import FreeNames, folds_case
 from ..new_files import make_folders, put_inside, replace
 from ..packs import pack_of
@@ -210,7 +210,7 @@ class BoxFiles:
     """Makes the files; `find` gives what is kept of a page, and `complain` gets what isn't made."""
 
     def __init__(self, put: PutFiles, terms: AnswerTerms, names: Names, find: Callable[[FileFacts], Optional[KeptPage]],
-                 complain: Callable[[str, str], None]) -> None:
+                 complain: Callable[..., None]) -> None:
         self.put, self.terms, self.names, self.find, self.complain = put, terms, names, find, complain
         self.free = FreeNames(put.place.path, tell_of, sees_disk=True, folds=folds_case(put.place.of(MARKER)))
         self.totals = Totals()
@@ -259,7 +259,7 @@ class BoxFiles:
             pass  # (what is wrong there is reported where it is put)
         kept = self.find(file)
         if kept is None or kept.canon is None or not has_canonical(file, kept):
-            self.complain(path, messages.NOT_KEPT)
+            self.complain(path, messages.NOT_KEPT, CHANGED)
         else:
             self.put.put(path, kept.canon)
 
@@ -267,7 +267,7 @@ class BoxFiles:
         """The treated copy of a refused file, its parts, or the pages that were carved out of it."""
         kept = self.find(file)
         if kept is None:
-            self.complain(file.at_path.path, messages.NOT_KEPT)
+            self.complain(file.at_path.path, messages.NOT_KEPT, CHANGED)
             return
         if file.treated is not None and self._is_true(has_copy, file, kept):
             self._copy(file, kept)
@@ -279,7 +279,7 @@ class BoxFiles:
     def _is_true(self, has: Callable[[FileFacts, KeptPage], bool], file: FileFacts, kept: KeptPage) -> bool:
         """Whether what is kept can be so; else that is reported."""
         if not has(file, kept):
-            self.complain(file.at_path.path, messages.NOT_KEPT)
+            self.complain(file.at_path.path, messages.NOT_KEPT, CHANGED)
             return False
         return True
 
@@ -323,7 +323,7 @@ class BoxFiles:
             self.totals.cut += 1
             self.cut.append({"path": shown(path), "source": shown(name), "how": "split", "offset": part.piece.offset,
                              "bytes": part.piece.length, "cut_at": part.piece.cut_at,
-                             "answer": _answer_line(part.answer)})
+                             "answer": part.answer.line})
 
     def _carved(self, file: FileFacts, kept: KeptPage) -> None:
         """The pages inside a refused file. (Of one that is too long for a page, its hash is kept.)"""
@@ -346,7 +346,7 @@ class BoxFiles:
             self.totals.carved += 1
             self.cut.append({"path": shown(path), "source": shown(name), "how": "carve", "offset": found.offset,
                              "bytes": len(found.data), "at_least_bytes": found.least_end - found.offset,
-                             "at_most_offset": found.most_begin, "answer": _answer_line(found.answer)})
+                             "at_most_offset": found.most_begin, "answer": found.answer.line})
         self.totals.sources += 1
 
 
@@ -366,10 +366,6 @@ def _cut(data: bytes, parts: List[KeptPart], number: int) -> notes.CutPart:
 
 def _answer(part: KeptPart) -> Answer:
     return read_line(part.line.encode("ascii"), part.length) if part.line else Unanswered(part.why)
-
-
-def _answer_line(answer: Answer) -> str:
-    return answer.line if isinstance(answer, (Accepted, Refusal)) else answer.reason
 
 
 # Refused files that no treatment makes readable and that are no capture, by the formats that they look like.
@@ -452,13 +448,13 @@ def fill_box(given: Given, tool: str) -> int:
 
     Raises NoProgram, NotWritten, StoreFailed, TooLarge or sqlite3.Error.
     """
-    options = WorkerOptions(find(tool), given.budget, given.seconds, MOST_PAGE)
+    options = WorkerOptions(find(tool), given.budget, given.timeout, MOST_PAGE)
     roots = apart(map(absolute, given.folders))
     lacking = missing(roots)
     if lacking and not os.path.lexists(given.into):
         for root, why in lacking:
             tell(f"{shown(os.fsdecode(root))}: {why}")
-        return SOME_LACK
+        return FAILED
     with BoxFolder(given.into, roots) as place:
         return BoxRun(place, options, given).fill()
 
@@ -468,10 +464,11 @@ class BoxRun:
 
     def __init__(self, place: BoxFolder, options: WorkerOptions, given: Given) -> None:
         self.place, self.given = place, given
+        self.carves = "carve" not in (given.skip or ())
         is_lost = os.path.lexists(place.of(STORE)) and not os.path.lexists(place.of(KEPT))
-        self.options = options._replace(retry=Retry(again=is_lost, cures=given.cures, words=given.words))
-        self.processes = given.processes or processors()
-        self.kept = KeptPages(place.of(KEPT), not given.no_carve, is_new=True)
+        self.options = options._replace(retry=Retry(again=is_lost))
+        self.processes = given.jobs or processors()
+        self.kept = KeptPages(place.of(KEPT), self.carves, is_new=True)
         self.claims = made_claims(place.path)
         self.kept.share(self.claims)
         self.status = COMPLETE
@@ -481,7 +478,7 @@ class BoxRun:
         """Scans, makes the files, and prints what all came to; the status."""
         try:
             found = scanned(ScanOptions(list(self.given.folders), self.place.of(STORE), self.processes, self.options,
-                                        beside=self.kept, refused=refused_by(self.given)))
+                                        beside=self.kept, refused=skipped_by(self.given.skip)))
             if isinstance(found, int):
                 return found
             self.status = found.status
@@ -528,7 +525,7 @@ class BoxRun:
                 self.options.seconds, kept=self.place.of(KEPT)))
             put.move(part, REPORT, shown_by)
             for path, why in made.missed:
-                self._complain(path, messages.NO_SKETCH.format(reason=why))
+                self._complain(path, messages.NO_SKETCH.format(reason=why), made.status)
         except TooLarge as error:
             put.lose(REPORT, str(error))
         except NotWritten as error:
@@ -539,9 +536,9 @@ class BoxRun:
             with suppress(OSError):
                 os.unlink(part)
 
-    def _complain(self, name: str, why: str) -> None:
+    def _complain(self, name: str, why: str, status: int = FAILED) -> None:
         tell_of(name, why)
-        self.status = max(self.status, SOME_LACK)
+        self.status = max(self.status, status)
 
     def _find(self, file: FileFacts) -> Optional[KeptPage]:
         """What is kept of a file's page. Where too little is, the file is read again."""
@@ -566,7 +563,7 @@ class BoxRun:
         kept = self._kept_of(key)
         if kept is not None and (kept.data is None or not has_carved(file, kept)):
             kept = None
-        if kept is None and not self.given.no_carve:
+        if kept is None and self.carves:
             try:
                 kept = carve_long(file, self.place.roots, self._local_worker().program)
             except NotCarved as why:
@@ -577,14 +574,14 @@ class BoxRun:
 
     def _local_worker(self) -> BoxWorker:
         """A worker in this process."""
-        self.worker = self.worker or BoxWorker(self.options, lambda _: set(), lambda: None, not self.given.no_carve)
+        self.worker = self.worker or BoxWorker(self.options, lambda _: set(), lambda: None, self.carves)
         return self.worker
 
     def _lacks(self, file: FileFacts, kept: KeptPage) -> bool:
         """Whether more is asked for now than is kept of a page."""
         if file.answer == tables.ACCEPTED:
             return not has_canonical(file, kept)
-        is_searched = kept.is_searched(file.looks_like) and not self.given.no_carve
+        is_searched = kept.is_searched(file.looks_like) and self.carves
         return (is_searched and not has_carved(file, kept)) or (
             file.treated is not None and not has_copy(file, kept)) or (
             file.kind == tables.CAPTURE and not has_parts(file, kept))
@@ -594,7 +591,7 @@ class BoxRun:
         try:
             page = read(file.at_path, own)
         except Otherwise as otherwise:
-            self._complain(file.at_path.path, str(otherwise))
+            self._complain(file.at_path.path, str(otherwise), CHANGED)
             return
         page.close()
         if page.data is not None:

@@ -7,25 +7,28 @@ import os
 import sqlite3
 import sys
 import time
+from argparse import Namespace
 from typing import Any, Callable, Iterator, List, NamedTuple, Optional, Sequence, Tuple, Union
 
 from naplps.answers import Accepted, Answer, Nonsense, Unanswered
 from naplps.client import Client
+from naplps.client import find as find_program
 from naplps.faults import NotALine
 from naplps.limits import MODEST
 from naplps.names import shown
 from naplps.treating.treatments import find
 
 from .. import messages
-from ..console import COMPLETE, SOME_LACK, tell
+from ..console import CHANGED, COMPLETE, tell
 from ..source import Page
 from . import tables
 from .file_reader import Otherwise, read
 from .folders import Place, join, reason
 from .kept import CanonTable
-from .pool import NoWorkers, Pool
+from .pool import NoWorkers, Pool, processors
 from .progress import Progress, Stopping
 from .protocol import BlockMaker, Chunk, FolderFiles, Row, RowBlock, WorkerOptions, block_of, serve
+from .sources import most_budget
 from .store import StoreFailed, checkpoint, keep_log, keep_private, open_to_read, open_to_write, reader, schema_of
 from .store_files import Busy, Lock
 from .tables import SCHEMA, CanonValues, Count, File, Hash, Name, Path, checked, one
@@ -105,7 +108,7 @@ class CanonPass:
         for folder, name, why in block.unread:
             path, = self.connection.execute("SELECT path FROM folders WHERE id = ?", (folder,)).fetchone()
             self.progress.tell(f"{shown(os.fsdecode(join(path, name)))}: {why}; {self.table.without}")
-            self.status = SOME_LACK
+            self.status = CHANGED
 
     def _write(self) -> None:
         if self.rows:
@@ -129,6 +132,14 @@ class Filled(NamedTuple):
 
     connection: sqlite3.Connection
     status: int
+
+
+def filling(table: CanonTable, given: Namespace, tool: str) -> "CanonFilling":
+    """What fills a table of the store that a command names. `tool` is the path of the tool, beside which naplps may be.
+    """
+    store = given.stores[0]
+    return CanonFilling(table, store, lambda: WorkerOptions(
+        find_program(tool), most_budget([store]), given.timeout, 0), given.jobs or processors())
 
 
 class CanonFilling(NamedTuple):

@@ -11,11 +11,11 @@ from naplps.answers import Refusal
 from naplps.names import shown
 
 from ..codes import EIGHTH_BIT, stops
-from ..commands.census import Census, Row, show
-from ..console import SOME_LACK
-from ..page_session import Session
+from ..console import CHANGED, COMPLETE
+from .census import COLUMNS, Census, Row, show
 from .file_reader import Otherwise, read
 from .folders import Place
+from .printing import Printer
 from .progress import Progress
 from .store import kept, open_to_read
 from .tables import Count, Hash, Name, PageState, Path, RefusalNumber, Text, checked
@@ -66,17 +66,17 @@ class RefusedPage(NamedTuple):
     begins: Optional[Count]
 
 
-def census(session: Session) -> int:
-    """Prints the census of the store that a session names; the status."""
-    connection = open_to_read(session.names[0])
+def census(store: str, form: str) -> int:
+    """Prints the census of a store in a form; the status, which tells of files that changed."""
+    connection, status = open_to_read(store), COMPLETE
     found = exact(connection)
     progress = Progress(sys.stderr, lambda: min(found.refused, MAX_READ), what="refused pages")
     for path, why in read_on(connection, found, progress):
         progress.tell(f"{shown(path)}: {why}")
-        session.fail(SOME_LACK)
+        status = CHANGED
     progress.clear()
-    show(session, found)
-    return session.status
+    show(Printer(form, COLUMNS), found)
+    return status
 
 
 def exact(connection: sqlite3.Connection) -> Census:

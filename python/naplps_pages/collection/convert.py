@@ -1,19 +1,21 @@
-"""The command convert: canonical pages into a folder, named by their hashes."""
+"""The canonical streams of a store, put into a folder and named by their hashes."""
 import hashlib
 import os
 import sqlite3
 import stat
+import sys
 from typing import Dict, Iterator, NamedTuple, Optional
 
-from naplps.answers import Accepted, Answer, Unanswered
+from naplps.answers import Accepted, Answer
 from naplps.client import Client
 from naplps.names import Members, shown
 
-from .. import messages
+from .. import console, messages
 from ..new_files import made_folder, make_folders, put_inside
 from .file_reader import Otherwise, read
 from .folders import Place, reason
 from .printing import NAME, ErrorReporter, Printer, named, shown_as
+from .progress import Progress
 from .sources import most_budget
 from .store import kept, open_to_read
 from .tables import Count, Hash, Name, Path, hashed
@@ -87,8 +89,7 @@ class Conversion:
 
     def _written(self, canon: bytes, path: str, place: Place, answer: Answer) -> ConvertedRow:
         if not isinstance(answer, Accepted):
-            why = answer.reason if isinstance(answer, Unanswered) else answer.line
-            return ConvertedRow(canon, NOT_MADE, path, place, why)
+            return ConvertedRow(canon, NOT_MADE, path, place, answer.line)
         if hashed(answer.body) != canon:
             return ConvertedRow(canon, NOT_MADE, path, place, messages.OTHER_HASH)
         make_folders(self.into, os.path.join(canon.hex()[:2], ""))
@@ -118,10 +119,16 @@ def convert(program: Client, store: str, into: str, form: str) -> int:
     printer = Printer(form, COLUMNS)
     telling = ErrorReporter(printer)
     conversion = Conversion(program, into)
-    for row in conversion.rows(connection):
+    total: int = connection.execute("SELECT count(DISTINCT canon) FROM pages").fetchone()[0]
+    progress = Progress(sys.stderr, lambda: total, what="canonical streams")
+    for done, row in enumerate(conversion.rows(connection)):
+        progress.show(done)
         if row.reason:
-            telling(row.path if row.status == NOT_MADE else row.place.path, row.reason)
+            progress.clear()
+            is_made = row.status != NOT_MADE
+            telling(row.place.path if is_made else row.path, row.reason, console.CHANGED if is_made else console.FAILED)
         show(printer, row)
+    progress.clear()
     if form == "text":
         printer.line(conversion.line())
     printer.flush()

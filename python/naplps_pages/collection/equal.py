@@ -11,7 +11,7 @@ from itertools import chain, groupby
 from operator import attrgetter
 from typing import Callable, Iterable, Iterator, List, NamedTuple, Optional, Sequence, Tuple
 
-from naplps.answers import Accepted, Answer, Refusal, Unanswered
+from naplps.answers import Accepted, Answer, Refusal
 from naplps.client import Client
 from naplps.client import find as find_program
 from naplps.limits import MOST_LISTED, Limits
@@ -406,7 +406,7 @@ def _verified_spelling(program: Client, group: Group, spelling: Spelling,
                     tell(place.path, messages.OTHER_COPY_OF_IT)
                     return None
                 if not isinstance(answer, Accepted):
-                    tell(place.path, answer.reason if isinstance(answer, Unanswered) else answer.line)
+                    tell(place.path, answer.line)
                     return None
                 canon = answer.body
         finally:
@@ -439,20 +439,13 @@ def _canon(program: Client, page: Page, spelling: Spelling) -> Optional[Answer]:
 def _program(given: Namespace, tool: str, stores: List[str]) -> Client:
     """The program, under the largest budget of the stores: a budget only refuses."""
     from .sources import most_budget
-    return Client(find_program(tool), most_budget(stores), Limits(seconds=given.seconds))
+    return Client(find_program(tool), most_budget(stores), Limits(seconds=given.timeout))
 
 
 def equal_by_picture(given: Namespace, tool: str) -> int:
     """The groups of pages that look alike. What isn't known of pictures is found out first."""
-    store = given.stores[0]
-    if len(given.stores) > 1:
-        raise StoreFailed(given.stores[1], messages.PICTURES_OF_ONE_STORE)
-    from .canon_filling import CanonFilling
-    from .pool import processors
-    from .protocol import WorkerOptions
-    from .sources import most_budget
-    it = CanonFilling(PICTURES, store, lambda: WorkerOptions(
-        find_program(tool), most_budget([store]), given.seconds, 0), given.processes or processors()).filled()
+    from .canon_filling import filling
+    it = filling(PICTURES, given, tool).filled()
     if it is None:
         return FAILED
     printer = Printer(given.form, PICTURE_COLUMNS)
@@ -521,5 +514,5 @@ def _verified(program: Client, some: Iterator[Group], copies: bool,
               telling: ErrorReporter) -> Iterator[Group]:
     for group in some:
         left = verified(program, group, telling)
-        if len(left.spellings) > 1 or (left.files > 1 if copies else left.spellings and left.others):
+        if len(left.spellings) > 1 or copies and left.files > 1 or left.spellings and left.others:
             yield left

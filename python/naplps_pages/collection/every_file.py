@@ -4,12 +4,12 @@ from itertools import groupby
 from typing import Iterator, NamedTuple, Optional
 
 from naplps.answers import Accepted, Answer, Refusal, Unanswered
-from naplps.names import Members, shown
-from naplps.treating.treatments import grade_of, graded
+from naplps.names import Members, printable, shown
+from naplps.treating.treatments import graded
 
+from ..console import Output
 from ..refusals import Reason as Wanted
 from ..refusals import Reason
-from ..schema import answered
 from . import tables
 from .folders import Place
 from .printing import NAME, Printer, named, numbered, shown_as
@@ -19,14 +19,13 @@ from .tables import (
     TextSource,
 )
 
-REFUSED_COLUMNS = ["number", "fault", "code", "stops", "place", "hash", "tried", "treatments", "grade", *NAME]
 REASONS = """CREATE TEMP TABLE reasons AS SELECT p.number AS number, coalesce(p.left_out, '') AS left_out,
     coalesce(p.stop, '') AS stop, count(DISTINCT p.id) AS pages, count(*) AS files FROM pages p
     JOIN present f ON f.page = p.id WHERE p.number IS NOT NULL {} GROUP BY 1, 2, 3"""
 # (There may be as many reasons as pages, since anybody may have made a store.)
 BY_REASON = "CREATE INDEX temp.reasons_by_number ON reasons(number, left_out, stop)"
 MEMBERS = """SELECT r.number, n.name, r.left_out, r.stop, r.pages, r.files, p.place, p.own, c.page IS NOT NULL,
-    c.treatments, d.path, f.name FROM pages p CROSS JOIN reasons r ON r.number = p.number
+    c.treatments, p.looks_like, p.holds, d.path, f.name FROM pages p CROSS JOIN reasons r ON r.number = p.number
     AND r.left_out = coalesce(p.left_out, '') AND r.stop = coalesce(p.stop, '')
     CROSS JOIN present f ON f.page = p.id CROSS JOIN folders d ON d.id = f.folder
     LEFT JOIN faults n ON n.number = r.number LEFT JOIN cures c ON c.page = p.id AND c.terms = p.terms
@@ -58,6 +57,8 @@ class RefusedFile(NamedTuple):
     own: Hash
     tried: Flag
     treatments: Optional[Text]
+    looks_like: Optional[Text]
+    holds: Optional[Count]
     folder: Path
     name: Name
 
@@ -70,11 +71,6 @@ class RefusedFile(NamedTuple):
     def place(self) -> Place:
         """Where it is."""
         return Place(self.folder, self.name)
-
-    @property
-    def refused(self) -> Refusal:
-        """The refusal."""
-        return Refusal(self.number, self.fault, self.left_out or None, self.at)
 
 
 def refused_files(connection: sqlite3.Connection, wanted: Optional[Wanted]) -> Iterator[RefusedFile]:
@@ -92,44 +88,24 @@ def only(wanted: Optional[Wanted]) -> str:
     return f"AND p.number = {wanted.number}{code}"
 
 
-def show_refused(printer: Printer, some: Iterator[RefusedFile]) -> None:
-    """Prints refused files."""
+def show_refused(output: Output, some: Iterator[RefusedFile]) -> None:
+    """Prints refused files, by the reason."""
     for reason, each in groupby(some, key=lambda member: member.reason):
-        if printer.form == "text":
-            name = " ".join(part for part in (reason.fault, reason.left_out or reason.stop) if part)
-            printer.line(f"{reason.number} {name}: {numbered(reason.pages, 'page')}, {numbered(reason.files, 'file')}")
+        name = " ".join(part for part in (reason.fault, reason.left_out or reason.stop) if part)
+        output.line(printable(
+            f"{reason.number} {name}: {numbered(reason.pages, 'page')}, {numbered(reason.files, 'file')}"))
         for member in each:
-            _show(printer, member)
-
-
-def _show(printer: Printer, member: RefusedFile) -> None:
-    if printer.form == "text":
-        printer.line(f"  {shown(member.place.path)} at {member.at}{_cure(member)}")
-    elif printer.form == "json":
-        printer.object(_object(member))
-    elif printer.form == "csv":
-        reason = member.reason
-        printer.row({"number": reason.number, "fault": reason.fault, "code": reason.left_out, "stops": reason.stop,
-                     "place": member.at, "hash": member.own.hex(), "tried": "yes" if member.tried else "no",
-                     "treatments": member.treatments, "grade": _grade(member), **shown_as(member.place)})
-    else:
-        printer.name(member.place)
+            output.line(printable(f"  {shown(member.place.path)} at {member.at}{_cure(member)}"))
 
 
 def _cure(member: RefusedFile) -> str:
     if member.treatments:
         return f": readable by {graded(member.treatments)}"
-    return ": no treatment makes it readable" if member.tried else ""
-
-
-def _object(member: RefusedFile) -> Members:
-    return {**answered(member.place.path, member.refused), "stops": member.reason.stop or None,
-            "hash": member.own.hex(), "tried": bool(member.tried),
-            "treatments": member.treatments.split("+") if member.treatments else None, "grade": _grade(member)}
-
-
-def _grade(member: RefusedFile) -> Optional[str]:
-    return grade_of(member.treatments) if member.treatments else None
+    if member.looks_like:
+        return f": looks like {member.looks_like}"
+    if member.holds:
+        return f": capture of {numbered(member.holds, 'page')}"
+    return ": no repair makes it readable" if member.tried else ""
 
 
 FACTS = ("status", "number", "fault", "code", "place", "entries", "reason", "size", "mtime_ns", "hash", "canonical",

@@ -243,11 +243,13 @@ OWN: Dict[str, str] = {each.name: each.table.words() for each in CANON_TABLES}
 NAMES = (*OPTIONS, *(each.option for each in CANON_TABLES))
 # What a new store gets that nobody asked for anything else.
 USUAL = frozenset(OPTIONS)
-# What is told where a scan refuses what its store keeps.
-KEEPS_TO = {"words": "its scans keep texts, and so does this one: --no-words is for a new store",
-            "cures": "its scans try treatments, and so does this one: --no-cures is for a new store"}
-LACKING = {"words": ("words", "no text is kept, and nothing is found: `scan --words` keeps texts"),
-           "cures": ("treatments", "none is tried: `scan --cures` tries them")}
+# What the command line calls them.
+SKIPPED_AS = {"words": "words", "repair": "cures"}
+# What is told where a scan leaves out what its store keeps.
+KEEPS_TO = {"words": "its scans keep texts, and so does this one: --skip words is for a new store",
+            "cures": "its scans try repairs, and so does this one: --skip repair is for a new store"}
+LACKING = {"words": ("words", "no text is kept, and nothing is found: a new store keeps texts"),
+           "cures": ("repairs", "none is tried: a new store has them")}
 
 
 def kept(connection: sqlite3.Connection) -> "FrozenSet[str]":
@@ -272,9 +274,9 @@ def gets_words(retry: "Retry", refused: Optional[FrozenSet[str]]) -> bool:
     return retry.words or retry.near or refused is not None and "words" not in refused
 
 
-def refused_by(given: object) -> FrozenSet[str]:
-    """The options that the command line refuses."""
-    return frozenset(name for name in OPTIONS if getattr(given, f"no_{name}"))
+def skipped_by(names: Optional[Iterable[str]]) -> FrozenSet[str]:
+    """The options that the command line leaves out, by what it names."""
+    return frozenset(SKIPPED_AS[name] for name in names or () if name in SKIPPED_AS)
 
 
 def lacking(connection: sqlite3.Connection) -> List[Tuple[str, str]]:

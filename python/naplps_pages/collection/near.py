@@ -1,6 +1,7 @@
-"""The command near on a store: pages that are almost equal, by keys of their lists, which are made where they lack."""
+"""Pages of a store that are almost equal, by keys of their lists, which are made where they lack."""
 import sqlite3
 import sys
+from argparse import Namespace
 from itertools import groupby
 from operator import attrgetter
 from typing import Dict, Iterator, List, NamedTuple, Optional, Sequence
@@ -14,10 +15,9 @@ from ..nearness import (
     COLOURS, MOST_ENTRIES, PLACES, WORDS, Beginning, Difference, ListedPage, PageName, beginnings, difference,
     numbers_of, show,
 )
-from .canon_filling import CanonFilling
+from .canon_filling import filling
 from .folders import Place
 from .kept import NEAR_KEYS, WITH_COPIES, ListKey, ListWords, PrefixKeys
-from .protocol import WorkerOptions
 from .tables import Hash, Name, Path, Text, checked
 
 FIND = ("DROP TABLE IF EXISTS temp.named", "DROP TABLE IF EXISTS temp.compared",
@@ -117,12 +117,12 @@ class NearGroups:
         return names
 
 
-def near(store: str, options: WorkerOptions, processes: int, as_objects: bool) -> int:
+def near(given: Namespace, tool: str) -> int:
     """Prints what is near in a store; the status. Raises StoreFailed or sqlite3.Error."""
-    it = CanonFilling(NEAR_KEYS, store, lambda: options, processes).filled()
+    it = filling(NEAR_KEYS, given, tool).filled()
     if it is None:
         return FAILED
-    _print(it.connection, as_objects)
+    _print(it.connection, given.form == "json")
     return it.status
 
 

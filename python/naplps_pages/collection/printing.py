@@ -5,10 +5,11 @@ from typing import IO, List, Optional, Sequence
 
 from naplps.names import Members, as_json, printable, shown
 
-from ..console import COMPLETE, SOME_LACK, Output, tell
+from ..console import CHANGED, COMPLETE, Output, tell
 from .folders import Place
 
-FORMS = ("text", "json", "csv", "null")
+MARK = "'"
+FORMULAS = ("=", "+", "-", "@", MARK)
 END = b"\0"
 
 
@@ -60,15 +61,18 @@ class ErrorReporter:
     def __init__(self, printer: Printer) -> None:
         self.printer, self.status = printer, COMPLETE
 
-    def __call__(self, name: str, why: str) -> None:
-        """Tells what is wrong with a file."""
+    def __call__(self, name: str, why: str, status: int = CHANGED) -> None:
+        """Tells what is wrong with a file, which has this status."""
         self.printer.flush()
         tell(f"{shown(name)}: {why}")
-        self.status = SOME_LACK
+        self.status = max(self.status, status)
 
 
 def _field(value: object) -> str:
-    return "" if value is None else printable(str(value))
+    """A value as CSV has it. A text that a spreadsheet might take for a formula, or that begins with what marks such a
+    text, gets a mark in front, an apostrophe."""
+    text = "" if value is None else printable(str(value))
+    return MARK + text if isinstance(value, str) and text.startswith(FORMULAS) else text
 
 
 def named(place: Place) -> Members:

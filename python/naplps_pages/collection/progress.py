@@ -1,5 +1,5 @@
-"""Tells how far a scan is, in a line that is written over on a terminal, in a line a minute in a log; and keeps the
-signal that asks it to stop, until it can stop in order.
+"""Tells a terminal how far a scan is, in a line that is written over; and keeps the signal that asks it to stop, until
+it can stop in order.
 """
 import os
 import signal
@@ -60,8 +60,8 @@ class Stopping:
             os.kill(os.getpid(), self.number)
 
 
-# Between two lines, in seconds: on a terminal, in a log.
-OFTEN, SELDOM = 0.25, 60.0
+# Between two lines, in seconds.
+OFTEN = 0.25
 # The rate is that of about this number of seconds.
 SPAN = 10.0
 # Between two looks at the clock, in rows.
@@ -99,7 +99,7 @@ def _count(root: bytes, part: Optional[Part]) -> Optional[int]:
 
 
 class Progress:
-    """Tells of files that are done, or of others. `total` gives how many there are, once that is known."""
+    """Tells a terminal of files that are done, or of others. `total` gives how many there are, once that is known."""
 
     def __init__(self, stream: Optional[TextIO], total: Callable[[], Optional[int]] = lambda: None,
                  clock: Callable[[], float] = time.monotonic, what: str = "files") -> None:
@@ -114,16 +114,13 @@ class Progress:
         """Tells that a number of files are done, if it is time to."""
         now = self.clock()
         past = now - self.last
-        if self.stream is None or past < (OFTEN if self.terminal else SELDOM):
+        if self.stream is None or not self.terminal or past < OFTEN:
             return
         weight = min(1.0, max(past / SPAN, past / (now - self.began)))
         self.rate += ((done - self.done) / past - self.rate) * weight
         self.last, self.done = now, done
-        if self.terminal:
-            self._write(CLEAR + self._line()[:_width(self.stream) - 1])
-            self.shown = True
-        else:
-            tell(self._line())
+        self._write(CLEAR + self._line()[:_width(self.stream) - 1])
+        self.shown = True
 
     def _line(self) -> str:
         total = self.total()

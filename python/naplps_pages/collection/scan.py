@@ -17,7 +17,7 @@ from naplps.limits import MOST_PAGE, Limits
 from naplps.names import shown
 
 from .. import messages
-from ..console import COMPLETE, FAILED, SOME_LACK, Output, tell
+from ..console import COMPLETE, FAILED, Output, tell
 from ..packs import NO_FILE, SEVERAL
 from ..unexpected import Unexpected
 from . import texts
@@ -121,7 +121,7 @@ def scanned(options: ScanOptions) -> "Union[ScanRun, int]":
         if len(lacking) == len(roots) and not os.path.lexists(options.store):
             for root, why in lacking:
                 tell(f"{shown(os.fsdecode(root))}: {why}")
-            return SOME_LACK  # (a store of nothing is of no use)
+            return FAILED  # (a store of nothing is of no use)
         if options.on is not None:
             from .cluster import Cluster, alike  # (what few scans need, the others don't wait for)
             cluster = Cluster(options.on, options.worker, alike(terms.program_hash, roots))
@@ -324,7 +324,7 @@ class ScanRun:
 
     def _complain_of(self, folder: int, name: bytes, why: str) -> None:
         """Tells what is wrong with a file; of a pack's members with the first ones."""
-        self.status = SOME_LACK
+        self.status = FAILED
         if name and folder in self.writer.packs:
             self.broken[folder] += 1
             if self.broken[folder] > MAX_BROKEN:
@@ -335,7 +335,7 @@ class ScanRun:
     def _complain(self, path: bytes, why: str) -> None:
         """Tells what is wrong with a folder or a file."""
         self.progress.tell(f"{shown(os.fsdecode(path))}: {why}")
-        self.status = SOME_LACK
+        self.status = FAILED
 
     def _finish(self) -> None:
         """Marks what is gone, builds indices, and counts."""

@@ -19,7 +19,7 @@ from ..free_names import FreeNames, Making
 from ..listing import Listed
 from ..new_files import make_folders
 from ..packs import pack_of
-from ..page_session import Session
+from ..page_session import OPTIONS, Session
 from ..pictures import MOST_PAGES
 from ..source import Page, Unread
 from .file_reader import Otherwise, read
@@ -28,20 +28,17 @@ from .kept import RootPath
 from .printing import numbered
 from .sources import most_budget
 from .store import kept, open_to_read, run
-from .tables import CAPTURE, REFUSED, Count, Hash, Name, Path, Text, checked, hashed
+from .tables import REFUSED, Count, Hash, Name, Path, Text, checked, hashed
 
 if TYPE_CHECKING:
     from ..listing import Earlier
 
-# The options that a session of the files of a store has.
-OPTIONS = ("json", "into", "past", "png", "sheet", "dots", "animate", "scale", "speed")
 ROOTS = "SELECT DISTINCT path FROM roots ORDER BY path"
 # The files with an answer, in the order of their names.
 FILES = """SELECT d.path, f.name, f.at, p.own, p.place, p.entries, p.looks_like, c.treatments, c.copy FROM present f
     CROSS JOIN pages p ON p.id = f.page CROSS JOIN folders d ON d.id = f.folder LEFT JOIN cures c ON c.page = p.id AND
     c.terms = p.terms AND c.treatments IS NOT NULL WHERE p.state {} ORDER BY d.path, f.name"""
 ANSWERED, REFUSED_ALONE = f"<= {REFUSED}", f"= {REFUSED}"
-CAPTURES_ALONE = f"= {REFUSED} AND p.kind = {CAPTURE}"
 
 
 class StoredFile(NamedTuple):
@@ -138,10 +135,10 @@ class StoreSession(Session):
     current: Optional[StoredFile] = None
     free: Optional[FreeNames] = None
 
-    def __init__(self, program: Client, names: List[str], files: Iterator[StoredFile], stored: Names,
+    def __init__(self, program: Client, names: List[str], files: Iterator[StoredFile], total: int, stored: Names,
                  **options: Any) -> None:
         super().__init__(program, names, **options)
-        self.files, self.stored, self.store = files, stored, names[0]
+        self.files, self.total, self.stored, self.store = files, total, stored, names[0]
         self.reader = self._read
 
     def front(self, name: str) -> str:
@@ -156,7 +153,7 @@ class StoreSession(Session):
     def each(self, work: Callable[[Page], None], more: Sequence[str] = ()) -> int:
         """Does the work for each file, but for those for which there is no room; the status of the whole."""
         left: List[StoredFile] = []
-        for self.current in self.files:
+        for self.current in self.told(self.files, self.total):
             if not self.has_room():
                 left.append(self.current)
             elif self.take(self.current):
@@ -180,12 +177,13 @@ class StoreSession(Session):
             self.complain(self.store, messages.SHEET_FULL.format(most=MOST_PAGES, files=files))
 
     def _read(self, _name: str, _seconds: float) -> Page:
-        """The page of the file that is at work. Raises Unread."""
+        """The page of the file that is at work. Raises Unread, or NotWritten where its name is none."""
         assert self.current
+        self.stored.of(self.current.place)  # (a name that leads outside is refused before its file is opened)
         try:
             return read(self.current.place, self.current.own)
         except Otherwise as otherwise:
-            raise Unread(str(otherwise)) from None
+            raise Unread(str(otherwise), console.CHANGED) from None
 
     def path_for(self, name: str, ending: str = "", making: Optional[Making] = None) -> str:
         """The path of the file for a page, in the folder that is given; no other file's of this run. Raises NotWritten.
@@ -206,7 +204,8 @@ def on_files(given: Namespace, client: Client, after: "Optional[Earlier]", work:
         connection = open_to_read(given.pages[0])
         client.budget = most_budget(given.pages)
         options = {name: getattr(given, name) for name in OPTIONS if name in given}
-        return work(kind(client, given.pages, **options, after=after, files=files(connection, which),
+        total, = connection.execute(f"SELECT count(*) FROM ({FILES.format(which)})").fetchone()
+        return work(kind(client, given.pages, **options, after=after, files=files(connection, which), total=total,
                          stored=Names(connection)))
     return run(given.pages[0], on_store)
 
@@ -250,7 +249,7 @@ class LookSession(StoreSession):
 
     def has_room(self) -> bool:
         """Whether there is room for another picture."""
-        return self.sheet is None or self.counts.pictures < MOST_PAGES
+        return not self.is_sheet or self.counts.pictures < MOST_PAGES
 
     def takes(self, listed: Listed) -> bool:
         """Whether there is anything to draw; then it is counted."""

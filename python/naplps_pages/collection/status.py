@@ -4,11 +4,12 @@ import sqlite3
 from dataclasses import dataclass, field
 from typing import Dict, List, NamedTuple, Optional, Sequence, Tuple, TypeVar
 
-from naplps.names import Members, as_json, shown
+from naplps.names import printable, shown
 
+from ..console import Output
 from . import tables
 from .kept import CANON_TABLES, Part, kept, kept_part, lacking
-from .printing import Printer, numbered
+from .printing import numbered
 from .store import log_of
 from .store_files import LOG, is_held
 from .tables import Count, FileState, Flag, Name, PageKind, PageState, Path, Text, checked, one
@@ -117,7 +118,6 @@ def _one(connection: sqlite3.Connection, words: str, values: Tuple[int, ...]) ->
     return int(number)
 
 
-COLUMNS = ["what", "value"]
 RUN = """SELECT r.id, r.began, r.ended, r.tool, r.program, r.terms, t.version, lower(hex(t.program_hash)), t.form,
     t.budget FROM runs r JOIN terms t ON t.id = r.terms ORDER BY r.id DESC LIMIT 1"""
 ROOTS = """SELECT path, (SELECT why FROM roots o WHERE o.path = r.path ORDER BY run DESC LIMIT 1)
@@ -129,7 +129,7 @@ FILES = f"""SELECT f.state, p.state, coalesce(f.why, p.why), f.state = {tables.R
 PAGES = """SELECT (SELECT count(DISTINCT page) FROM present), (SELECT count(DISTINCT canon) FROM pages p
     WHERE canon IS NOT NULL AND EXISTS(SELECT 1 FROM present f WHERE f.page = p.id))"""
 # Pages that lack what the store keeps, by the option.
-LACKING = {"cures": ("refused without treatments tried", f"p.state = {tables.REFUSED} AND NOT {tables.TRIED}"),
+LACKING = {"cures": ("refused without repairs tried", f"p.state = {tables.REFUSED} AND NOT {tables.TRIED}"),
            "words": ("without their text", f"p.state <> {tables.NO_ANSWER} AND NOT {tables.HAS_TEXT}")}
 LACK = "SELECT count(*) FROM pages p WHERE {} AND EXISTS(SELECT 1 FROM present f WHERE f.page = p.id)"
 PERHAPS_SEVERAL = "perhaps several pages"
@@ -302,29 +302,7 @@ def lines(it: Status) -> List[Tuple[str, str]]:
     return some + [("left", ", ".join(left) or "nothing")]
 
 
-def show(printer: Printer, it: Status) -> None:
+def show(output: Output, it: Status) -> None:
     """Prints it."""
-    if printer.form == "json":
-        printer.object(_object(it))
-        return
     for name, value in lines(it):
-        if printer.form == "csv":
-            printer.row({"what": name, "value": value})
-        else:
-            printer.line("%-16s %s" % (name + ":" if name else "", value))
-
-
-def _object(it: Status) -> Members:
-    run: Members = {} if it.run is None else {
-        "began": it.run.began, "ended": it.run.ended, "tool": it.run.tool,
-        "program": as_json(os.fsdecode(it.run.program)), "version": it.run.version,
-        "program_hash": it.run.program_hash, "form": it.run.form, "budget": it.run.budget}
-    return {"store": as_json(it.path), "at_work": it.busy, "part": str(it.part) if it.part else None,
-            "run": run or None,
-            "folders": [dict(as_json(os.fsdecode(path)), reason=why) for path, why in it.roots],
-            "files": it.counts, "kinds": it.tally.kinds, "perhaps_several": it.tally.several,
-            "captures": {"files": it.tally.captures, "pages": it.tally.pages},
-            "looks_like": dict(_most_first(it.tally.looks)), "pages": it.pages, "canonical": it.canonical,
-            "left": it.tally.left, "lacking": [name for name, _ in it.lacking],
-            "reasons": [{"status": name, "reason": why, "files": number}
-                        for (name, why), number in sorted(it.tally.reasons.items()) if why]}
+        output.line(printable("%-16s %s" % (name + ":" if name else "", value)))

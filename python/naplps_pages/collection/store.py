@@ -12,7 +12,7 @@ from naplps.version import VERSION
 
 from .. import TOOL, messages
 from ..console import FAILED, NotWritten, tell
-from ..unexpected import Unexpected, failure_message
+from ..unexpected import Unexpected, failure_message, status_of
 from . import tables
 from .query_bounds import bounded, require_ends, statistics_of, watch
 from .store_files import APPLICATION, LOG, MAGIC, close_to_others, foreign, is_held, place
@@ -136,7 +136,8 @@ def _look(path: str, may_be_empty: bool = False) -> None:
     try:
         status = os.stat(path)
         if not stat.S_ISREG(status.st_mode):
-            raise StoreFailed(path, messages.NOT_A_FILE)
+            is_folder = stat.S_ISDIR(status.st_mode)
+            raise StoreFailed(path, messages.FOLDER_NO_STORE if is_folder else messages.NOT_A_FILE)
         if may_be_empty and not status.st_size and status.st_uid not in (0, os.geteuid()):
             raise StoreFailed(path, messages.EMPTY_OF_OTHER)
         with open(os.open(path, os.O_RDONLY | os.O_NONBLOCK | os.O_CLOEXEC), "rb") as file:
@@ -379,11 +380,18 @@ def run(named: str, work: Callable[[], int]) -> int:
         return work()
     except BrokenPipeError:
         raise
-    except (NoProgram, NotWritten, StoreFailed, Unexpected) as error:
+    except (NoProgram, NotWritten, StoreFailed) as error:
         ENDING.act()  # (in a query that it ends, SQLite makes another error of a signal)
         tell(str(error))
+    except Unexpected as error:
+        ENDING.act()
+        tell(str(error))
+        return error.status
+    except sqlite3.Error as error:
+        ENDING.act()
+        tell(f"{shown(named)}: {error}")
     except Exception as error:  # pylint: disable=broad-except
         ENDING.act()
-        why = str(error) if isinstance(error, sqlite3.Error) else failure_message(error)
-        tell(f"{shown(named)}: {why}")
+        tell(f"{shown(named)}: {failure_message(error)}")
+        return status_of(error)
     return FAILED

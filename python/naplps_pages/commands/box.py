@@ -1,45 +1,40 @@
 """The command box: all that is found in folders of files, in one folder."""
 from typing import List
 
-from naplps.names import shown
-
 from .. import messages
-from ..console import FAILED, NotWritten, tell
+from ..console import NotWritten
 from . import (
-    ASKED_FOR, BUDGET, COLLECTION_GROUP, FOLDERS, ON_STORES, PROCESSES, SECONDS, USUAL, Argument, Command, Given,
-    Option, Part, check_usual,
+    BUDGET, COLLECTION_GROUP, FOLDERS, JOBS, OUTPUT, TIMEOUT, Argument, Command, Given, Part, skipped,
 )
 
-SOURCES = Argument("folders", "FOLDER", "a folder of files, a pack of them, which is a tar, tar.gz or zip file, or a "
-                   "file", "+")
-INTO = Option("--into", "the folder of all that is found: a new one, or that of a run before", "PLACE",
-              completes=FOLDERS, is_required=True)
-NO_CARVE = Option("--no-carve", "carve no pages out of refused files", default=False)
+SOURCES = Argument("folders", "FOLDER", "a folder of files, a pack of files (.zip, .tar, .tar.gz or .tgz), or a file",
+                   "+")
+OUT = OUTPUT._replace(title="FOLDER", completes=FOLDERS, is_required=True,
+                      help="a new folder, or the one that an earlier run made")
 
 
 def _parts() -> List[Part]:
-    return [SOURCES, INTO, *USUAL, *ASKED_FOR, NO_CARVE, PROCESSES, BUDGET, SECONDS]
+    return [SOURCES, OUT, skipped("words", "repair", "carve"), JOBS, BUDGET, TIMEOUT]
+
+
+def _check(given: Given) -> None:
+    from .. import outputs
+    outputs.place_folder(given)
 
 
 def _run(given: Given, tool: str) -> int:
+    from ..collection.store import run
+    return run(given.into, lambda: _fill(given, tool))
+
+
+def _fill(given: Given, tool: str) -> int:
     import sqlite3
-    from naplps.faults import NoProgram
     from ..box.making import fill_box
-    from ..collection.store import StoreFailed
-    from ..report.making import TooLarge
-    from ..unexpected import failure_message
     try:
         return fill_box(given, tool)
-    except (NoProgram, NotWritten, StoreFailed, TooLarge) as error:
-        tell(str(error))
-    except BrokenPipeError:
-        raise
     except sqlite3.Error as error:
-        tell(messages.GOES_ON_AFTER.format(path=shown(given.into), reason=error))
-    except Exception as error:  # pylint: disable=broad-except
-        tell(f"{shown(given.into)}: {failure_message(error)}")
-    return FAILED
+        raise NotWritten(given.into, messages.GOES_ON_AFTER.format(reason=error)) from None
 
 
-COMMAND = Command("find all that is in folders of files, and put it into one folder", _parts, _run, check_usual,
-                  ON_STORES, group=COLLECTION_GROUP, rank=10, is_first=True)
+COMMAND = Command("search folders for pages, and collect all that is found in one folder", _parts, _run,
+                  "box archive -o found", _check, group=COLLECTION_GROUP, rank=10)

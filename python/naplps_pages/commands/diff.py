@@ -1,26 +1,27 @@
-"""The command diff: the sources of two pages side by side, and with --html their pictures."""
+"""The command diff: the sources of two pages side by side, also as a document with their pictures."""
 from __future__ import annotations
 
 from itertools import zip_longest
 from typing import TYPE_CHECKING, Iterator, List, NamedTuple, Optional, Sequence, Tuple
 
-from naplps.limits import MOST_LISTED
 from naplps.names import printable, shown
 
 from .. import messages
-from ..console import COMPLETE, tell
+from ..console import COMPLETE, REFUSED
 from . import (
-    BUDGET, FILES_OF_STORE, OF_PAGE, PAGE_GROUP, SECONDS, Argument, Command, Option, Part, on_pages,
-    require_one_standard_input,
+    BUDGET, FILES_OF_STORE, JSON_ALONE, NOTHING_OVERWRITTEN, OF_PAGE, OUTPUT, PAGE_GROUP, TIMEOUT, Argument, Command,
+    Given, Option, Part, on_pages, require_one_standard_input,
 )
 
 if TYPE_CHECKING:
     from ..page_session import Session
     from ..source import Page
 
-ENDING = ("Status: 0 the pages draw the same, 1 they differ or one is refused, 2 the command line is wrong, 3 "
-          "something couldn't be read or asked.")
-AS_HTML = Option("--html", "print a document for a browser, with both pictures", default=False)
+TEXT, HTML = FORMATS = ("text", "html")
+OUT = OUTPUT._replace(title="FILE", help="the file to write, or - for standard output")
+FORMAT = Option("--format", "what to make: text, both pages as text, side by side; or html, a document for a browser "
+                "that also shows both. The default is html if FILE ends in .html, and otherwise text", "FORMAT", str,
+                choices=FORMATS)
 # The most columns of a source that are shown beside another one, and what a longer line ends with.
 MOST_WIDE, CUT = 60, ".."
 SAME, LEFT_ALONE, RIGHT_ALONE, CHANGED = " ", "<", ">", "|"
@@ -58,7 +59,20 @@ td { padding: 0 .5em; vertical-align: top; white-space: pre-wrap; overflow-wrap:
 
 
 def _parts() -> List[Part]:
-    return [Argument("pages", "PAGE", OF_PAGE, 2), AS_HTML, BUDGET, SECONDS]
+    return [Argument("pages", "PAGE", OF_PAGE, 2), OUT, FORMAT, JSON_ALONE, BUDGET, TIMEOUT]
+
+
+def _check(given: Given) -> None:
+    from .. import outputs
+    outputs.place(given, False)
+    if given.into is not None:
+        given.parser.error("-o names a file here, not a folder")
+    given.format = given.format or (HTML if outputs.ending(given.output or "") in (".html", ".htm") else TEXT)
+    if given.json and given.format == HTML:
+        given.parser.error("--json and --format html exclude each other")
+    if given.format == HTML:
+        outputs.require_no_terminal(given, "a page of HTML")
+    require_one_standard_input(given)
 
 
 class _PageSource(NamedTuple):
@@ -72,32 +86,39 @@ class _PageSource(NamedTuple):
 def diff(session: Session) -> int:
     """Prints two pages side by side. The status is 1 where they draw something else, as that of diff(1)."""
     from naplps import drawing
-    from naplps.answers import Refusal
     from ..authoring.writing import source_lines
+    from ..console import FAILED, NotWritten
+    from .make import entries_of
     pages: List[_PageSource] = []
 
     def work(page: Page) -> None:
-        heard = session.heard(page).last
-        answer, entries = heard.answer, heard.entries
-        if not session.answered(page, answer):
-            return
-        if isinstance(answer, Refusal):
-            tell(f"{shown(page.name)}: {messages.NO_SOURCE_OF_REFUSED.format(answer=answer.line)}")
-        elif entries is None:
-            session.complain(page.name, messages.LONG_FOR_SOURCE.format(most=MOST_LISTED))
-        else:
-            source = list(source_lines(list(entries)))
-            if len(source) > MOST_LINES:
-                session.complain(page.name, messages.LONG_TO_COMPARE.format(most=MOST_LINES))
-            else:
-                pages.append(_PageSource(shown(page.name), source, drawing.draw(entries).svg if session.html else ""))
+        entries = entries_of(session, page)
+        source = None if entries is None else list(source_lines(list(entries)))
+        if source is not None and len(source) > MOST_LINES:
+            session.complain(page.name, messages.LONG_TO_COMPARE.format(most=MOST_LINES))
+        elif entries is not None and source is not None:
+            svg = drawing.draw(entries).svg if session.format == HTML else ""
+            pages.append(_PageSource(shown(page.name), source, svg))
     status = session.each(work)
     if len(pages) < 2:
         return status
     left, right = pages
-    session.output.text(_html(left, right) if session.html else "".join(side_by_side(left.source, right.source)))
-    session.output.flush()
-    return max(status, COMPLETE if left.source == right.source else 1)
+    made = (_json(left, right) if session.json else _html(left, right) if session.format == HTML
+            else "".join(side_by_side(left.source, right.source)))
+    try:
+        session.deliver(left.name, made.encode("utf-8", "backslashreplace"))
+        session.output.flush()
+    except NotWritten as error:
+        session.tell(str(error))
+        return FAILED
+    return max(status, COMPLETE if left.source == right.source else REFUSED)
+
+
+def _json(left: _PageSource, right: _PageSource) -> str:
+    """An object with each row: its line of both sources, null where there is none, and whether they are equal."""
+    from ..schema import dumps
+    rows = [{"left": one, "right": other, "same": one == other} for one, other in _rows(left.source, right.source)]
+    return dumps({"left": left.name, "right": right.name, "same": left.source == right.source, "rows": rows}) + "\n"
 
 
 def side_by_side(left: Sequence[str], right: Sequence[str]) -> Iterator[str]:
@@ -151,5 +172,5 @@ def _picture(page: _PageSource) -> str:
             f"<figcaption>{name}</figcaption></figure>")
 
 
-COMMAND = Command("print two pages side by side, as people write them", _parts, on_pages(
-    diff, FILES_OF_STORE), require_one_standard_input, ENDING, group=PAGE_GROUP, rank=100)
+COMMAND = Command("compare two pages side by side, as text that people edit", _parts, on_pages(
+    diff, FILES_OF_STORE), "diff ferry.nap chart.nap", _check, NOTHING_OVERWRITTEN, PAGE_GROUP, 60)

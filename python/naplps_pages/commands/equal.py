@@ -1,45 +1,53 @@
-"""The command equal: groups of pages that draw the same."""
+"""The command equal: groups of pages that draw the same, or almost the same."""
 from typing import List
 
 from . import (
-    COLLECTION_GROUP, CSV, JSON, NULL, ON_STORES, PROCESSES, SECONDS, Argument, Command, Given, OneOf, Option, Part,
+    COLLECTION_GROUP, CSV, JOBS, JSON, PRINT0, STORE, TIMEOUT, Command, Given, OneOf, Option, Part,
 )
 
-# By what pages are equal.
-BY = ("list", "picture")
-STORES = Argument("stores", "STORE", "a file that `scan` made, or several, as those of the parts of a scan", "+")
-WHAT = Option("--by", "what is equal in a group: list, the default; or picture, for pages that look alike at "
-              "their end, though their lists differ", "WHAT", str, default=BY[0], choices=BY)
-# What is put into groups, or among them, besides pages that differ.
-WITH = ("copies", "treated", "guesses")
-JOINED = Option("--with", "also print: copies, groups of files with the same bytes; treated, the copies that were "
-                "treated around their pages, in the groups of others; guesses, these and groups of those that were "
-                "treated within; may be given several times", "WHAT", str, to="joined", choices=WITH, is_repeated=True)
-VERIFY = Option("--verify", "read all files again, and compare canonical bytes", default=False)
+STORES = STORE._replace(to="stores", help=f"{STORE.help}; several are taken as one", number="+")
+NEARLY = Option("--nearly", "print pages that differ only in words, colours or places, and pages that are the "
+                "beginning of another", default=False)
+PICTURES = Option("--pictures", "print pages whose final pictures are equal, though their lists differ", default=False)
+# What is put into groups, or among them, besides pages that are accepted as they are.
+WITH = ("treated", "guesses")
+INCLUDE = Option("--include", "put repaired copies into the groups of files that draw the same: treated, those whose "
+                 "page is unchanged; guesses, also those whose page was changed", "WHAT", str, choices=WITH,
+                 is_repeated=True)
+SKIP = Option("--skip", "leave out: copies, groups of files with the same bytes alone", "WHAT", str,
+              choices=("copies",), is_repeated=True)
+VERIFY = Option("--verify", "read the files again, and compare their canonical streams", default=False)
+ONE_STORE = "{way} takes one store: `scan --merge` makes one of several"
 
 
 def _parts() -> List[Part]:
-    return [STORES, WHAT, JOINED, *(Option(f"--{each}", "", to=each, default=False, now=f"--with {each}")
-                                   for each in WITH), VERIFY, OneOf((JSON, CSV, NULL)), PROCESSES, SECONDS]
+    return [STORES, OneOf((NEARLY, PICTURES)), INCLUDE, SKIP, VERIFY, OneOf((JSON, CSV, PRINT0)), JOBS, TIMEOUT]
 
 
 def _check(given: Given) -> None:
-    """Exits where an option of lists is asked for with pictures, or one of pictures with lists."""
+    """Exits where an option of lists is asked for with another way to compare, or the other way round."""
     for each in WITH:
-        setattr(given, each, getattr(given, each) or each in (given.joined or ()))
-    for other in ("copies", "treated", "guesses", "verify") if given.by == "picture" else ():
-        if getattr(given, other):
-            word = f"--with {other}" if other in WITH else f"--{other}"
-            given.parser.error(f"--by picture and {word} exclude each other")
-    if given.by != "picture" and given.processes is not None:
-        given.parser.error("--processes is for --by picture")
+        setattr(given, each, each in (given.include or ()))
+    given.copies = not given.skip
+    way = "--nearly" if given.nearly else "--pictures" if given.pictures else ""
+    if not way and given.jobs is not None:
+        given.parser.error("--jobs is for --nearly and --pictures")
+    if way and len(given.stores) > 1:
+        given.parser.error(ONE_STORE.format(way=way))
+    for word, is_there in (("--include", given.include), ("--skip", given.skip), ("--verify", given.verify),
+                           ("--csv", given.nearly and given.form == "csv"),
+                           ("--print0", given.nearly and given.form == "null")):
+        if way and is_there:
+            given.parser.error(f"{way} and {word} exclude each other")
 
 
 def _run(given: Given, tool: str) -> int:
     from ..collection.equal import equal, equal_by_picture
+    from ..collection.near import near
     from ..collection.store import run
-    return run(given.stores[0], lambda: equal_by_picture(given, tool) if given.by == "picture" else equal(given, tool))
+    work = near if given.nearly else equal_by_picture if given.pictures else equal
+    return run(given.stores[0], lambda: work(given, tool))
 
 
-COMMAND = Command("print groups of pages that draw the same", _parts, _run, _check, ON_STORES,
-                  group=COLLECTION_GROUP, rank=50, is_first=True)
+COMMAND = Command("list pages that draw the same, or almost the same", _parts, _run, "equal pages.db", _check,
+                  group=COLLECTION_GROUP, rank=50)

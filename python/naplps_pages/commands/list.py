@@ -4,24 +4,22 @@ from __future__ import annotations
 from typing import TYPE_CHECKING, Iterable, List
 
 from naplps.limits import Limits
-from naplps.names import shown
 
 from .. import messages
-from ..console import tell
 from . import (
-    AFTER, BUDGET, FILES_OF_STORE, JSON_ALONE, PAGES, PAGE_GROUP, SECONDS, Command, Part, on_pages,
+    BUDGET, FILES_OF_STORE, JSON_ALONE, PAGES, PAGE_GROUP, PREVIOUS, TIMEOUT, Command, Part, on_pages,
     require_one_standard_input,
 )
 
 if TYPE_CHECKING:
-    from naplps.answers import Answer, Refusal
+    from naplps.answers import Answer
     from ..listing import Row
     from ..page_session import Session
     from ..source import Page
 
 
 def _parts() -> List[Part]:
-    return [PAGES, JSON_ALONE, AFTER, BUDGET, SECONDS]
+    return [PAGES, JSON_ALONE, PREVIOUS, BUDGET, TIMEOUT]
 
 
 def list_entries(session: Session) -> int:
@@ -31,7 +29,7 @@ def list_entries(session: Session) -> int:
 
 
 def _list_lines(session: Session, page: Page) -> None:
-    from naplps.answers import Accepted, Refusal
+    from naplps.answers import Accepted
     from naplps.entry import lines_in
     if session.after:
         _list_after(session, page)
@@ -39,15 +37,13 @@ def _list_lines(session: Session, page: Page) -> None:
     answer = _limited(session.program.ask("list", page))
     if not session.answered(page, answer):
         return
-    if isinstance(answer, Refusal):
-        tell_refusal(session, page, answer)
+    session.tell_refused(page.name, answer)
+    front = session.front(page.name)
+    if isinstance(answer, Accepted) and front:
+        for line in lines_in(answer.body):
+            session.output.line(front + line)
     elif isinstance(answer, Accepted):
-        front = session.front(page.name)
-        if front:
-            for line in lines_in(answer.body):
-                session.output.line(front + line)
-        else:
-            session.output.bytes(answer.body)
+        session.output.bytes(answer.body)
 
 
 def _list_after(session: Session, page: Page) -> None:
@@ -57,7 +53,7 @@ def _list_after(session: Session, page: Page) -> None:
     if not session.answered(page, page_list.answer):
         return
     if isinstance(page_list.answer, Refusal):
-        tell_refusal(session, page, page_list.answer)
+        session.tell_refused(page.name, page_list.answer)
     else:
         front = session.front(page.name)
         session.output.text("".join(front + line + "\n" for line in page_list.lines or []))
@@ -97,11 +93,6 @@ def _limited(answer: Answer) -> Answer:
     return answer
 
 
-def tell_refusal(session: Session, page: Page, answer: Refusal) -> None:
-    """A refused page has no list and no canonical bytes: its refusal is reported on standard error."""
-    session.output.flush()
-    tell(f"{shown(page.name)}: {answer.line}")
-
-
-COMMAND = Command("print a line for each entry of the pages", _parts, on_pages(
-    list_entries, FILES_OF_STORE, limits=Limits()), require_one_standard_input, group=PAGE_GROUP, rank=50)
+COMMAND = Command("print the entries of pages, one per line", _parts, on_pages(
+    list_entries, FILES_OF_STORE, limits=Limits()), "list ferry.nap", require_one_standard_input, group=PAGE_GROUP,
+    rank=40)

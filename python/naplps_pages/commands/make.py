@@ -1,52 +1,94 @@
-"""The command make: pages of text that people write, and what is wrong with it."""
+"""The command make: pages of text that people write, what is wrong with it, and such text of a page."""
 from __future__ import annotations
 
 import os
 from typing import TYPE_CHECKING, List, Optional, Tuple
 
-from naplps.limits import USUAL_BUDGET, Limits
+from naplps.limits import MOST_LISTED, Limits
 from naplps.names import printable, shown
 
 from .. import messages
-from ..console import REFUSED, tell, tell_line
-from ..new_files import made_folder, put, put_inside
+from ..console import REFUSED, tell_line
+from ..new_files import made_folder, put_inside
 from . import (
-    FILES, INTO_FOLDER, MAKE_GROUP, SECONDS, Argument, Command, Given, OneOf, Option, Part, on_pages,
-    require_one_standard_input,
+    BUDGET, FILES_OF_STORE, MAKE_GROUP, NOTHING_OVERWRITTEN, OF_PAGE, OUTPUT, TIMEOUT, Argument, Command, Given, Option,
+    Part, require_one_standard_input,
 )
 
 if TYPE_CHECKING:
     from naplps.answers import Accepted, WrongLine
+    from naplps.entry import Entries
     from ..authoring.translating import Translation
     from ..authoring.values import Mistake
     from ..page_session import Session
     from ..source import Page
 
-ENDING = ("No file is overwritten. docs/MAKING.md says how a page is written. Status: 0 all pages are made, 1 "
-          "something in a source is wrong, 2 the command line is wrong, 3 something couldn't be read, asked or "
-          "written.")
-SOURCES = Argument("pages", "FILE", "a page as people write it, PACK!MEMBER for a member of a pack, or - for standard "
-                   "input", "+", "source")
-INTO = INTO_FOLDER._replace(help="make a file for each page in this folder, with the ending .nap")
-FILE = Option("-o", "write the one page to this file, and nothing where it can't be made", "FILE", completes=FILES,
-              to="output_file")
-LOOK = Option("--look", "make the sketch of the page instead of the page; with --into, make both", default=False)
-NAPLPS, PICTURE = ".nap", ".svg"
+SOURCES = Argument("pages", "FILE", "text that describes a page, as docs/MAKING.md says, or lines that `list` printed; "
+                   f"with --from, a page. Each {OF_PAGE}", "+", "source")
+OUT = OUTPUT._replace(help="the file to write, or - for standard output. For several FILEs, a folder, in which pages "
+                      "end in .nap, drawings in .svg and text in .txt")
+FROM = Option("--from", "turn a page into text that `make` takes", default=False, to="is_from")
+PAGE, SVG = FORMATS = ("page", "svg")
+FORMAT = Option("--format", "what to make: page; or svg, a drawing of it, which a folder gets beside the page. The "
+                "default is svg if OUT ends in .svg, and otherwise page", "FORMAT", str, choices=FORMATS)
+NAPLPS, PICTURE, SOURCE = ".nap", ".svg", ".txt"
 
 
 def _parts() -> List[Part]:
-    return [SOURCES, OneOf((INTO, FILE)), LOOK, SECONDS]
+    return [SOURCES, OUT, FROM, FORMAT, BUDGET, TIMEOUT]
 
 
 def _check(given: Given) -> None:
-    given.budget = USUAL_BUDGET
-    if len(given.pages) > 1 and given.into is None:
-        given.parser.error("several pages need --into FOLDER")
+    from .. import outputs
+    is_several = len(given.pages) > 1
+    outputs.place(given, is_several)
+    if is_several and given.into is None:
+        given.parser.error(messages.SEVERAL_PAGES)
+    if given.is_from and given.format:
+        given.parser.error("--from and --format exclude each other")
+    if not given.format:
+        given.format = SVG if outputs.ending(given.output or "") == PICTURE and not given.is_from else PAGE
+    if not given.is_from:
+        outputs.require_no_terminal(given, "a page" if given.format == PAGE else "a picture")
     require_one_standard_input(given)
 
 
+def _run(given: Given, tool: str) -> int:
+    from ..page_session import on_pages as running
+    if given.is_from:
+        return running(given, tool, source, of_store=FILES_OF_STORE)
+    return running(given, tool, make, Limits())
+
+
+def source(session: Session) -> int:
+    """The source of each page: what `make` makes the same canonical bytes of."""
+    from ..authoring.writing import source_lines
+
+    def work(page: Page) -> None:
+        entries = entries_of(session, page)
+        if entries is not None:
+            lines = "".join(line + "\n" for line in source_lines(list(entries)))
+            session.deliver(page.name, lines.encode("utf-8"), SOURCE)
+    with made_folder(session.into):
+        return session.each(work)
+
+
+def entries_of(session: Session, page: Page) -> Optional[Entries]:
+    """The entries of a page that has a source; where it has none, why is told."""
+    from naplps.answers import Refusal
+    last = session.heard(page).last
+    if not session.answered(page, last.answer):
+        return None
+    session.tell_refused(page.name, last.answer, messages.NO_SOURCE_OF_REFUSED)
+    if isinstance(last.answer, Refusal):
+        return None
+    if last.entries is None:
+        session.complain(page.name, messages.LONG_FOR_SOURCE.format(most=MOST_LISTED))
+    return last.entries
+
+
 def make(session: Session) -> int:
-    """The page of each source, or its sketch: printed, or put into a folder."""
+    """The page of each source, or its drawing."""
     from naplps.answers import Unanswered, WrongLine
     from ..authoring.translating import Translation, translate
 
@@ -71,23 +113,26 @@ def make(session: Session) -> int:
 
 
 def _put(session: Session, name: str, answer: Accepted) -> None:
-    """Prints the page, or with --look its sketch; or puts the page into the folder, and its sketch beside it."""
+    """Hands on the page, or its drawing; into a folder both, the page first."""
+    path = ""
+    if session.into is not None:
+        path = os.path.splitext(session.path_for(name))[0] + NAPLPS
+        put_inside(path, answer.body)
+    elif session.format == PAGE:
+        session.deliver(name, answer.body)
+    picture = _drawing(session, name, answer.body) if session.format == SVG else None
+    if picture is not None and path:
+        put_inside(path + PICTURE, picture)
+    elif picture is not None:
+        session.deliver(name, picture)
+
+
+def _drawing(session: Session, name: str, data: bytes) -> Optional[bytes]:
+    """The drawing of a page; None where there is none, which is told."""
+    from ..showing.sketches import sketch
     from ..source import Page
-    from .look import sketch
-    picture = sketch(session, Page(name, answer.body)) if session.look else None
-    if session.into is None:
-        made = answer.body if not session.look else None if picture is None else picture.encode("utf-8")
-        if made is None:
-            return
-        if session.output_file is None:
-            session.output.bytes(made)
-        else:
-            put(session.output_file, made)
-        return
-    path = os.path.splitext(session.path_for(name))[0] + NAPLPS
-    put_inside(path, answer.body)
-    if picture is not None:
-        put_inside(path + PICTURE, picture.encode("utf-8"))
+    drawn = sketch(session, Page(name, data))
+    return None if drawn is None else drawn.encode("utf-8")
 
 
 def _decoded(data: bytes) -> Tuple[str, List[Mistake]]:
@@ -122,9 +167,9 @@ def _tell(session: Session, name: str, mistakes: List[Mistake]) -> None:
     for line, column, message in mistakes:
         tell_line(f"{shown(name)}:{line}:{column}: {printable(message)}")
     if len(mistakes) >= MOST_MISTAKES:
-        tell(messages.MANY_MISTAKES.format(path=shown(name), most=MOST_MISTAKES))
+        session.tell(messages.MANY_MISTAKES.format(path=shown(name), most=MOST_MISTAKES))
     session.fail(REFUSED)
 
 
-COMMAND = Command("make pages of text that people write, or of lines of list", _parts, on_pages(
-    make, limits=Limits()), _check, ENDING, group=MAKE_GROUP, rank=10, is_first=True)
+COMMAND = Command("make pages from text that people edit, or turn pages into such text", _parts, _run,
+                  "make ferry.txt -o ferry.nap", _check, NOTHING_OVERWRITTEN, MAKE_GROUP, 10)

@@ -1,10 +1,10 @@
 """Packs: tar, tar.gz and zip files, by their names, and their members as they are found."""
 from typing import Callable, NamedTuple, Optional, Tuple
 
-from .. import messages
+from .. import PACKS, messages
 from ..collection.tables import MAX_NUMBER, NOT_A_FILE, READ, TOO_LONG, UNREADABLE
 
-ENDINGS = (b".tar", b".tar.gz", b".tgz", b".zip")
+ENDINGS = tuple(each.encode("ascii") for each in PACKS)
 ZIP = b".zip"
 # (The path of a folder never ends so.)
 MARK = b"!/"

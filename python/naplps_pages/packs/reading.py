@@ -3,13 +3,13 @@ import os
 import stat
 from collections import OrderedDict
 from dataclasses import dataclass
-from typing import IO, Dict, Optional, Tuple, Union
+from typing import IO, Dict, List, Optional, Tuple, Union
 
 from naplps.limits import MOST_PAGE
 
 from .. import messages
 from ..collection.folders import FolderIdentity, OpenFolders, opened, reason
-from ..collection.tables import READ
+from ..collection.tables import NOT_A_FILE, READ
 from . import ZIP, Damage, Member, PackLimits
 from .tars import Tar
 from .zips import Zip
@@ -116,6 +116,17 @@ class Packs:
         if member is None or member.data is None:
             raise NoMember(member.why or messages.NO_MEMBER if member else messages.NO_MEMBER)
         return member.data
+
+    def names(self, path: bytes) -> List[bytes]:
+        """The names of the members that are files. Raises NoMember."""
+        try:
+            pack = self._held(path).pack
+            found = [member.name for member in pack.members(reads=False) if member.state != NOT_A_FILE]
+        except OSError as error:
+            raise NoMember(reason(error)) from None
+        if not found and pack.why:
+            raise NoMember(pack.why)
+        return found
 
     def _held(self, path: bytes) -> _Held:
         """The pack at this path as it is now."""

@@ -85,7 +85,7 @@ def _length(data: bytes, page: Listed, some: Sequence[Row]) -> int:
 
 
 def _codes(data: bytes, page: Listed, some: List[Row], length: int) -> Tuple[CodeColumns, bool]:
-    """The codes as `explain` has them, with the entries that came of each; and whether there are too many."""
+    """The codes as `check --explain` has them, with the entries that came of each; and whether there are too many."""
     stop = page.answer.place if isinstance(page.answer, Refusal) else None
     columns = CodeColumns(entry=[-1] * len(some))
     numbers: Dict[str, int] = {}

@@ -1,7 +1,7 @@
 """Reports on what a scan found, as HTML, and how much one holds."""
 # Pages that have a sketch: usually, and at most.
 USUAL_SKETCHES, MOST_SKETCHES = 10_000, 50_000
-# More files than these are for `serve`.
+# More files than these are for `report --serve`.
 MOST_FILES = 500_000
 # Lines of a page's list, and characters of its text and of its sketch.
 HELD_LINES, HELD_TEXT, HELD_SKETCH = 48, 4000, 300_000

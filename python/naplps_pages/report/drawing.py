@@ -11,6 +11,7 @@ from naplps.limits import MOST_LISTED
 from naplps.screen_text import lines_of
 from naplps.treating.treatments import find, graded
 
+from .. import messages
 from ..box.kept_pages import KeptPage, KeptPages
 from ..collection.file_reader import Otherwise, read
 from ..collection.folders import Place
@@ -47,8 +48,6 @@ def shortened(lines: Sequence[str]) -> List[str]:
 
 
 TOO_LARGE = "its sketch is too large to be held here"
-OTHER_COPY = "the treatments make another copy than in the scan"
-OTHER_ANSWER = "the program answers otherwise than in the scan"
 
 
 class TreatedCopy(NamedTuple):
@@ -80,8 +79,6 @@ class DrawingLimits(NamedTuple):
     text: int
     lines: int
     player: int = 0
-    # (whether each character has a row of its own)
-    full: bool = False
     # (whether words are left out of the rows as a report leaves them out)
     shortens: bool = False
 
@@ -102,6 +99,8 @@ class Drawing(NamedTuple):
     entries: int = 0
     why: str = ""
     played: str = ""
+    # (whether it has none since its file isn't the page that was scanned)
+    is_other: bool = False
 
     def characters(self) -> int:
         """How many characters it has."""
@@ -120,11 +119,11 @@ def draw(program: Client, task: DrawingTask, most: DrawingLimits) -> Drawing:
     try:
         page = read(task.place, task.own)
     except Otherwise as otherwise:
-        return Drawing(why=str(otherwise))
+        return Drawing(why=str(otherwise), is_other=True)
     try:
         return _drawn_treated(program, page, task, most) if task.treated else _drawn(program, page, task, most)
     except NotALine:
-        return Drawing(why=OTHER_ANSWER)
+        return Drawing(why=messages.OTHER_ANSWER)
     finally:
         page.close()
 
@@ -136,7 +135,7 @@ def _drawn_treated(program: Client, page: Page, task: DrawingTask, most: Drawing
         return drawn_of(page, Listed(answer), task._replace(treated=None), most)
     cure = find(program.ask, page.data, answer.place)
     if cure is None or task.treated is None or hashed(cure.data) != task.treated.own:
-        return Drawing(why=OTHER_COPY)
+        return Drawing(why=messages.OTHER_COPY)
     return _drawn(program, Page(page.name, cure.data), task._replace(line=Accepted(cure.entries).line), most)
 
 
@@ -153,7 +152,7 @@ def drawn_of(page: Page, page_list: Listed, task: DrawingTask, most: DrawingLimi
     if isinstance(answer, Unanswered):
         return Drawing(why=answer.reason)
     if answer.line != task.line:
-        return Drawing(why=OTHER_ANSWER)
+        return Drawing(why=messages.OTHER_ANSWER)
     svg = sketch_of(page_list, f"treated by {task.treated.by}" if task.treated else "").svg
     lines = page_list.lines
     if lines is None:
@@ -172,9 +171,9 @@ def _rows(lines: List[str], most: DrawingLimits, is_refused: bool) -> List[Folde
     """Rows of a list: what comes last before a refusal, which tells of it, and what comes first of the other pages."""
     if not most.lines:
         return []
-    enough = most.lines * (1 if most.full else MOST_IN_ROW)
+    enough = most.lines * MOST_IN_ROW
     some = lines[-enough:] if is_refused else lines[:enough]
-    rows = (FoldedRow(line, 1) for line in some) if most.full else folded(some)
+    rows = folded(some)
     return [*rows][-most.lines:] if is_refused else [*islice(rows, most.lines)]
 
 
@@ -264,7 +263,7 @@ def kept_drawer(program: Client, path: str, most: DrawingLimits) -> Callable[[Dr
         try:
             return kept and _drawn_as_kept(kept, task, most) or draw(program, task, most)
         except NotALine:
-            return Drawing(why=OTHER_ANSWER)
+            return Drawing(why=messages.OTHER_ANSWER)
     return draws
 
 

@@ -1,7 +1,7 @@
 "use strict";
 // The files, groups and drawings that this file holds.
 
-const UNDRAWN = "This report has no sketch of it", SERVE = "naplps-pages serve STORE";
+const UNDRAWN = "This report has no sketch of it", SERVE = "naplps-pages report STORE --serve";
 
 async function unpack(element) {
   const bytes = Uint8Array.from(atob(element.textContent), (letter) => letter.charCodeAt(0));
@@ -228,7 +228,7 @@ class Held {
   async drawing(key) {
     const {at, held, why} = await this.block(key);
     if (at < 0) {
-      const commands = why === UNDRAWN ? [`naplps-pages look ${quoted(this.name(key))} -o page.svg`, SERVE] : [];
+      const commands = why === UNDRAWN ? [`naplps-pages show ${quoted(this.name(key))} -o page.svg`, SERVE] : [];
       return {sketch: "", text: "", lines: [], counts: [], first: 0, entries: 0, commands,
               why: commands.length ? why + ". To see it:" : why};
     }
@@ -243,7 +243,7 @@ class Held {
     const number = this.table.played.indexOf(this.columns.page[key]), per = this.table.playedPer;
     if (number < 0) {
       const why = `This report can play ${counted(this.table.played.length, "page")}, and not this one. To play it:`;
-      return {page: null, why, commands: [`naplps-pages play ${quoted(this.name(key))} -o page.html`, SERVE]};
+      return {page: null, why, commands: [`naplps-pages show ${quoted(this.name(key))} -o page.html`, SERVE]};
     }
     return {page: (await this.playedBlocks.get(Math.floor(number / per)))[number % per], why: ""};
   }

@@ -12,7 +12,7 @@ from naplps.treating.treatments import graded
 from .. import messages
 from ..collection import tables
 from ..collection.progress import Progress
-from ..console import NotWritten
+from ..console import CHANGED, COMPLETE, FAILED, NotWritten, Output
 from ..new_files import put, replace
 from ..page_words import first_words
 from . import (
@@ -221,24 +221,25 @@ def number_of_pictures(table: Table) -> int:
 Task = Tuple[int, DrawingTask]
 Numbered = Tuple[int, Drawing]
 # Where pages are that have no sketch in the file.
-OTHERS_SERVED = "naplps-pages serve shows the others too."
+# Why a page has no picture that isn't as it was scanned.
+OTHER_NOW = (messages.NOT_AS_SCANNED, messages.OTHER_ANSWER, messages.OTHER_COPY)
+OTHERS_SERVED = "naplps-pages report --serve shows the others too."
 # So each report begins.
 BEGINNING = b'<!doctype html>\n<html lang="en">\n<head>\n<meta charset="utf-8">\n<meta http-equiv="Content-Security-'
 
 
 class ReportOptions(NamedTuple):
     """What report was asked for: a number of sketches, or all; by how many processes, in how many seconds each; in
-    place of one that is there; with a row for each character."""
+    place of one that is there. Without a file to put it into it is printed."""
 
     store: str
-    into: str
+    into: Optional[str]
     program: str
     sketches: int
     all: bool
     processes: int
     seconds: float
     replace: bool = False
-    full: bool = False
     # (the path of what a box keeps of its pages)
     kept: str = ""
 
@@ -251,6 +252,7 @@ class ReportTotals(NamedTuple):
     sketches: int
     pictures: int
     missed: List[Tuple[str, str]]
+    status: int
     length: int
 
 
@@ -280,9 +282,10 @@ def _is_report(path: str) -> bool:
 
 
 def make(connection: sqlite3.Connection, options: ReportOptions) -> ReportTotals:
-    """Makes the file. Raises NotWritten or TooLarge."""
-    require_room(options.into, options.replace)
-    most = DrawingLimits(HELD_SKETCH, HELD_TEXT, HELD_LINES, HELD_PLAYER, options.full, shortens=True)
+    """Makes the report. Raises NotWritten or TooLarge."""
+    if options.into is not None:
+        require_room(options.into, options.replace)
+    most = DrawingLimits(HELD_SKETCH, HELD_TEXT, HELD_LINES, HELD_PLAYER, shortens=True)
     drawing_options = DrawingOptions(options.program, options.seconds, most, options.kept)
     # (the processes begin while the store is read, and to draw before all of it is)
     with BlockQueue(drawing_options, _processes(connection, options), Room(MOST_HELD)) as queue:
@@ -300,13 +303,24 @@ def make(connection: sqlite3.Connection, options: ReportOptions) -> ReportTotals
         blocks = _drawn(table, len(tasks), queue)
     drawings = [(number, page.drawing) for (number, _), page in zip(tasks, chain(*(each.pages for each in blocks)))]
     data = _data(table, drawings, [each.packed for each in blocks], options.processes)
+    status = max((CHANGED if each.is_other or each.why in OTHER_NOW else FAILED for _, each in drawings if each.why),
+                 default=COMPLETE)
     missed = [(table.files[number].place.path, each.why) for number, each in drawings if each.why]
     page = Document(facts, some, "held.js").html(_held_sentence(drawings, pictures), data).encode("utf-8")
-    if options.replace and os.path.isfile(options.into):
+    _put(options, page)
+    return ReportTotals(facts.files, len(some), len(drawings), pictures, missed, status, len(page))
+
+
+def _put(options: ReportOptions, page: bytes) -> None:
+    """Writes the report, or prints it."""
+    if options.into is None:
+        output = Output(sys.stdout.buffer)
+        output.bytes(page)
+        output.flush()
+    elif options.replace and os.path.isfile(options.into):
         replace(options.into, page)
     else:
         put(options.into, page)
-    return ReportTotals(facts.files, len(some), len(drawings), pictures, missed, len(page))
 
 
 def _processes(connection: sqlite3.Connection, options: ReportOptions) -> int:

@@ -95,7 +95,7 @@ class PageView {
   // What a file is; of a capture also what gives its pages.
   kind(file) {
     if (file.kind !== CAPTURE) return file.kind;
-    const words = command(`naplps-pages split ${quoted(file.name)} --into pages`);
+    const words = command(`naplps-pages fix ${quoted(file.name)} -o fixed`);
     return make("div", {}, "capture: several pages, of which this shows the first; ", words, " cuts it into them");
   }
 

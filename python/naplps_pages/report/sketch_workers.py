@@ -126,7 +126,7 @@ def _end(number: int, _: Optional[FrameType]) -> None:
 
 # The number of processes in a row that may draw nothing without a fault of the pages.
 MOST_STILLBORN = 10
-IS_FULL = "the report has no room for more; `naplps-pages serve` shows it"
+IS_FULL = "the report has no room for more; `naplps-pages report --serve` shows it"
 
 
 class Room:

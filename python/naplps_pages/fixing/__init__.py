@@ -1,0 +1,1 @@
+"""What `fix` does with files that are no accepted pages."""

@@ -1,0 +1,1 @@
+"""What `show` makes of pages."""
