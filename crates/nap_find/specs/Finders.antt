@@ -12,6 +12,10 @@ asked_of finder = finder.asked
 abbrev pub lacks : Finder → Bool
 lacks finder = finder.lacks
 
+-- the place of the first byte that isn't decided
+abbrev pub open_in : Finder → ℕ
+open_in finder = finder.place
+
 -- the number of bytes so far
 abbrev pub length_so_far : Finder → ℕ
 length_so_far finder = finder.place + length finder.row.items

@@ -91,3 +91,7 @@ found_of asked bytes = find_ended asked (find_on asked nothing_found bytes)
 -- the finds of these bytes
 abbrev pub finds_of : Asked → List ℕ → List Find
 finds_of asked bytes = (found_of asked bytes).finds
+
+-- the place from which on the bytes that follow these may change what is found
+abbrev pub open_of : Asked → List ℕ → ℕ
+open_of asked bytes = (find_on asked nothing_found bytes).place

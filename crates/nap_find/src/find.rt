@@ -30,6 +30,8 @@ pub struct Found {
     pub finds: Vec<Find>,
     /// How many beginnings were passed over, since too many came before a refused byte; at most the greatest `u64`.
     pub passed: u64,
+    /// The offset from which on bytes that follow may change what is found: that of the open row, or else of the end.
+    pub open: u64,
 }
 
 impl Found {
@@ -37,10 +39,12 @@ impl Found {
     pub fn new(alloc: Global) -> Found
         ensures finds { result.finds.items ≡ [] }
         ensures passed { result.passed ≡ 0 }
+        ensures open { result.open ≡ 0 }
     {
         Found {
             finds: Vec::new(alloc),
             passed: 0,
+            open: 0,
         }
     }
 }

@@ -1,7 +1,7 @@
 //! Finds in bytes that come in pieces.
 ghost use Rattle.std.specs.Prelude.{◌≡◌, ◌+◌, ◌<◌, ◌≤◌, ◌^◌, ◌-◌, [], IfOk, OnOk, OnErr, IsErr, length, drop, take, true, false, ◌==◌, get_or, ℕ};
 ghost use Rattle.nap_find.specs.Beginnings.{is_opener};
-ghost use Rattle.nap_find.specs.Rows.{finds_of, found_of, makes_fill, same_with};
+ghost use Rattle.nap_find.specs.Rows.{finds_of, found_of, makes_fill, open_of, same_with};
 
 use crate::beginning::is_opener;
 use crate::block::find_in_block;
@@ -47,7 +47,7 @@ fn makes_fill(byte: u8, same: usize) -> bool
 impl Finder {
     ghost use Rattle.nap_find.specs.declared.find.Found.{Found};
     ghost use Rattle.nap_find.specs.Rows.{end_row, find_ended, find_on, go_on, nothing_found, step, step_in_row};
-    ghost use Rattle.nap_find.specs.Finders.{asked_of, length_so_far, finding_of, lacks};
+    ghost use Rattle.nap_find.specs.Finders.{asked_of, length_so_far, finding_of, lacks, open_in};
     ghost use Rattle.nap_find.specs.Verdicts.{block_of};
 
     /// Returns a finder of pages that have what is asked for, before any byte. Takes no memory.
@@ -227,6 +227,13 @@ impl Finder {
         taken
     }
 
+    /// Returns the offset from which on bytes that follow may change what is found.
+    pub fn open(&self) -> u64
+        ensures { result ≡ open_in self.now }
+    {
+        self.place
+    }
+
     /// Ends the bytes, and adds the finds of the open row.
     pub fn finish(self, found: &mut Found) -> Result<(), AllocError>
         requires { length_so_far self < 2 ^ 63 }
@@ -249,10 +256,13 @@ pub fn find_all(alloc: Global, asked: Asked, bytes: &[u8]) -> Result<Found, Allo
     requires { length bytes.now < 2 ^ 63 }
     ensures finds { IfOk result (λ found. found.finds.items ≡ finds_of asked bytes.now) }
     ensures passed { IfOk result (λ found. found.passed ≡ (found_of asked bytes.now).passed) }
+    ensures open { IfOk result (λ found. found.open ≡ open_of asked bytes.now) }
 {
     let mut finder = Finder::new(alloc, asked);
     let mut found = Found::new(alloc);
     finder.feed(bytes, &mut found)?;
+    let open = finder.open();
     finder.finish(&mut found)?;
+    found.open = open;
     Ok(found)
 }
