@@ -1,15 +1,13 @@
 use Rattle.std.proofs.Common.{Bool, List, None, Option, Some, [], ap, arith, drop, false, if◌then◌else◌, length, length-drop, max, nat_lt, refl, suc, take, true, zero, ℕ, ◌&&◌, ◌+◌, ◌-◌, ◌<◌, ◌==◌, ◌∙◌, ◌∷◌, ◌≡◌, ◌≤◌}
 use Rattle.std.specs.Prelude.{⊤}
-use Rattle.std.proofs.lemmas.Bool.{and_parts, ltb-true}
-use Rattle.nap_reader.specs.Stream.{begun}
 use Rattle.nap_find.specs.Beginnings.{begins}
 use Rattle.nap_find.specs.Ends.{page_end_of, most_readings, retry_from}
 use Rattle.nap_find.specs.Laws.{IsPageIn}
-use Rattle.nap_find.specs.Readings.{find_budget, idle_limit, is_idle, is_page, reach, reads}
-use Rattle.nap_find.specs.Shapes.{shapes_in}
+use Rattle.nap_find.specs.Readings.{idle_limit, is_idle, is_page, reach, reads}
 use Rattle.nap_find.specs.Verdicts.{Block, Span, block_at, block_by, block_of, block_within, decided_to, lacks_bytes, next_beginning, verdict, verdict_at, verdict_by_end, verdict_read}
 use Rattle.nap_find.specs.declared.{find.Asked.Asked, verdict.Verdict.Verdict}
 use Rattle.nap_find.proofs.EndLemmas.{IsEnd, end_of_is, first_from_least, greatest_within}
+use Rattle.nap_find.proofs.IdleLemmas.{idle_long}
 use Rattle.nap_find.proofs.SearchingLemmas.{last_few-most}
 
 -- The pages of a block.
@@ -35,21 +33,13 @@ module _ (asked : Asked) (more : Bool) (p : List ℕ) where
         ]
       ]
 
-  idle_long : is_idle p ≡ true → idle_limit ≤ length p
-  unfolding is_idle
-  idle_long idle =
-      let one = and_parts (nat_lt idle_limit (length p) && reads p idle_limit) (shapes_in (begun find_budget (take idle_limit p)).entries == 0) idle in
-      let two = and_parts (nat_lt idle_limit (length p)) (reads p idle_limit) one.0 in
-      let less : idle_limit < length p = ltb-true idle_limit (length p) two.0 in
-      omega arith
-
   sound_by : (b : Bool) → (b ≡ true → idle_limit ≤ length p) → IsSound asked p (if b then Verdict.None idle_limit else verdict_at asked more p (reach p))
   sound_by true long = long refl
   sound_by false long = at_sound (reach p) (greatest_within (reads p) (length p))
 
   short_by : (b : Bool) → IsSound asked p (if b then Verdict.None 0 else verdict_read asked more p)
   short_by true = omega arith
-  short_by false = sound_by (is_idle p) idle_long
+  short_by false = sound_by (is_idle p) (λ idle. let long = idle_long p idle in omega (arith, long))
 
   pub verdict_sound : IsSound asked p (verdict asked more p)
   unfolding verdict

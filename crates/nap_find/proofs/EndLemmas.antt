@@ -1,8 +1,14 @@
-use Rattle.std.proofs.Common.{Bool, List, None, Option, Some, arith, false, if◌then◌else◌, length, nat_le, nat_lt, refl, subst, suc, take, true, zero, ℕ, ◌+◌, ◌-◌, ◌/◌, ◌<◌, ◌≡◌, ◌≤◌}
-use Rattle.nap_find.specs.Ends.{end_before, end_by_rival, end_in_run, page_end_of, end_past, end_tries, goal_of, halvings, is_code_byte, is_rival, last_code, own_end, page_end, retry_from, rival}
-use Rattle.nap_find.specs.Readings.{accepts, is_page}
+use Rattle.std.proofs.Common.{Bool, List, None, Option, Some, ap, arith, false, if◌then◌else◌, length, nat_le, nat_lt, not, refl, subst, suc, sym, take, true, zero, ℕ, ◌&&◌, ◌+◌, ◌-◌, ◌/◌, ◌<◌, ◌∙◌, ◌≡◌, ◌≤◌}
+use Rattle.std.proofs.lemmas.Bool.{and_parts, le-ltb, leb-true}
+use Rattle.std.proofs.lemmas.List.{take_all}
+use Rattle.nap_reader.specs.Stream.{means}
+use Rattle.nap_find.specs.Beginnings.{begins, begins_anew, goes_on}
+use Rattle.nap_find.specs.Ends.{bytes_from, either, end_before, end_by, end_in_run, end_tries, halvings, is_code_byte, is_next, last_code, next_anew, next_other, next_page, others_from, own_end, page_end_of, retry_from}
+use Rattle.nap_find.specs.Readings.{accepts, draws, find_budget, is_accepted, is_page, reads_and_draws}
 use Rattle.nap_find.specs.Searching.{first_down, first_from, greatest, halved}
-use Rattle.nap_find.specs.declared.{find.Asked.Asked}
+use Rattle.nap_find.specs.Verdicts.{verdict_at, verdict_by_end}
+use Rattle.nap_find.specs.declared.{find.Asked.Asked, verdict.Verdict.Verdict}
+use Rattle.nap_find.proofs.SearchingLemmas.{first_down-hit, if_false}
 
 -- How far ends and verdicts go.
 
@@ -17,6 +23,28 @@ first_down_within f at (suc n) k is =
       | true ↦ λ e. let same : at ≡ k = some_same at k e in omega arith
       | false ↦ λ e. let h : k ≤ at - 1 = first_down_within f (at - 1) n k e in omega arith
     ] is
+
+first_down_passes : (f : ℕ → Bool) (at n k : ℕ) → first_down f at n ≡ Some k → f k ≡ true
+unfolding first_down
+first_down_passes f at zero k is = cc
+first_down_passes f at (suc n) k is =
+    elim (f at) as (λ b. f at ≡ b → (if b then Some at else first_down f (at - 1) n) ≡ Some k → f k ≡ true) [
+      | true ↦ λ hit e. subst (λ (i : ℕ). f i ≡ true) (some_same at k e) hit
+      | false ↦ λ miss e. first_down_passes f (at - 1) n k e
+    ] refl is
+
+first_from_passes : (f : ℕ → Bool) (at n k : ℕ) → first_from f at n ≡ Some k → f k ≡ true
+unfolding first_from
+first_from_passes f at zero k is = cc
+first_from_passes f at (suc n) k is =
+    elim (f at) as (λ b. f at ≡ b → (if b then Some at else first_from f (at + 1) n) ≡ Some k → f k ≡ true) [
+      | true ↦ λ hit e. subst (λ (i : ℕ). f i ≡ true) (some_same at k e) hit
+      | false ↦ λ miss e. first_from_passes f (at + 1) n k e
+    ] refl is
+
+either_is : (P : ℕ → Type 0) (a b : Option ℕ) → ((x : ℕ) → a ≡ Some x → P x) → ((x : ℕ) → b ≡ Some x → P x) → (e : ℕ) → either a b ≡ Some e → P e
+either_is P None b left right e is = right e is
+either_is P (Some n) b left right e is = subst P (some_same n e is) (left n refl)
 
 halved_within : (f : ℕ → Bool) (low high n most : ℕ) → low ≤ most → high ≤ most → halved f low high n ≤ most
 unfolding halved
@@ -51,23 +79,15 @@ first_from_least f at (suc n) k is =
 abbrev pub IsEnd : Asked → List ℕ → ℕ → Type 0
 IsEnd asked p e = (is_page asked (take e p) ≡ true) × (e ≤ length p)
 
-by_test : (b : Bool) (x e : ℕ) → (if b then Some x else None) ≡ Some e → (b ≡ true) × (x ≡ e)
-by_test true x e is = (refl, some_same x e is)
-by_test false x e is = cc
-
 module _ (asked : Asked) (p : List ℕ) where
-  page_end_is : (o : Option ℕ) → ((x : ℕ) → o ≡ Some x → x ≤ length p) → (e : ℕ) → page_end asked p o ≡ Some e → IsEnd asked p e
-  page_end_is None within e is = cc
-  page_end_is (Some x) within e is =
-      let h = by_test (is_page asked (take x p)) x e is in
-      (subst (λ (k : ℕ). is_page asked (take k p) ≡ true) h.1 h.0, subst (λ (k : ℕ). k ≤ length p) h.1 (within x refl))
-
   before_within : (at : ℕ) → at ≤ length p → (x : ℕ) → end_before p at ≡ Some x → x ≤ length p
   before_within at few x is = let h : x ≤ at = first_down_within (accepts p) at end_tries x is in omega arith
 
-  rival_end_is : (o : Option ℕ) → ((y : ℕ) → o ≡ Some y → y ≤ length p) → (x e : ℕ) → IsEnd asked p x → end_by_rival asked p x o ≡ Some e → IsEnd asked p e
-  rival_end_is None within x e own is = subst (IsEnd asked p) (some_same x e is) own
-  rival_end_is (Some y) within x e own is = page_end_is (end_before p y) (before_within y (within y refl)) e is
+  -- another page begins after a page
+  next_is : (r at : ℕ) → is_next asked p r at ≡ true → is_page asked (take at p) ≡ true
+  next_is r at h =
+      let parts = and_parts (begins p at && not (goes_on p at) && reads_and_draws (bytes_from asked p r at) (r + asked.bytes - at)) (is_page asked (take at p)) h in
+      parts.1
 
   module _ (r : ℕ) (few : r ≤ length p) where
     run_within : (o : Option ℕ) → ((y : ℕ) → o ≡ Some y → y ≤ length p) → (x : ℕ) → end_in_run p r o ≡ Some x → x ≤ length p
@@ -80,24 +100,81 @@ module _ (asked : Asked) (p : List ℕ) where
 
     own_within : (x : ℕ) → own_end p r ≡ Some x → x ≤ length p
     own_within x is =
-        elim (accepts p r) as (λ b. (if b then Some r else end_in_run p r (end_before p (last_code p r))) ≡ Some x → x ≤ length p) [
-          | true ↦ λ e. subst (λ (k : ℕ). k ≤ length p) (some_same r x e) few
-          | false ↦ λ e. run_within (end_before p (last_code p r)) (before_within (last_code p r) last_within) x e
+        either_is (λ (k : ℕ). k ≤ length p) (end_before p r) (end_in_run p r (end_before p (last_code p r))) (before_within r few)
+        (run_within (end_before p (last_code p r)) (before_within (last_code p r) last_within)) x is
+
+    anew_is : (e : ℕ) → next_anew asked p r ≡ Some e → IsEnd asked p e
+    anew_is e is =
+        let f : ℕ → Bool = λ at. begins_anew p at && is_next asked p r at in
+        let h : e ≤ r - 1 = first_down_within f (r - 1) (r - retry_from p r) e is in
+        let parts = and_parts (begins_anew p e) (is_next asked p r e) (first_down_passes f (r - 1) (r - retry_from p r) e is) in
+        (next_is r e parts.1, omega arith)
+
+    other_is : (e : ℕ) → next_other asked p r ≡ Some e → IsEnd asked p e
+    other_is e is =
+        let f : ℕ → Bool = λ at. not (begins_anew p at) && is_next asked p r at in
+        let h = first_from_least f (others_from p r) (r - others_from p r) e is in
+        let parts = and_parts (not (begins_anew p e)) (is_next asked p r e) (first_from_passes f (others_from p r) (r - others_from p r) e is) in
+        (next_is r e parts.1, omega (arith, h.0, h.1))
+
+    next_page_is : (e : ℕ) → next_page asked p r ≡ Some e → IsEnd asked p e
+    next_page_is e is =
+        elim (nat_lt (r + asked.bytes) (length p)) as (λ b. (if b then either (next_anew asked p r) (next_other asked p r) else None) ≡ Some e → IsEnd asked p e) [
+          | true ↦ λ s. either_is (IsEnd asked p) (next_anew asked p r) (next_other asked p r) anew_is other_is e s
+          | false ↦ λ s. cc
         ] is
 
-    rival_within : (y : ℕ) → rival asked p r ≡ Some y → y ≤ length p
-    rival_within y is =
-        let h = first_from_least (is_rival p (goal_of asked p r)) (retry_from p r) (r - retry_from p r) y is in
-        omega (arith, h.0, h.1)
-
-    past_is : (o : Option ℕ) → ((x : ℕ) → o ≡ Some x → IsEnd asked p x) → (e : ℕ) → end_past asked p r o ≡ Some e → IsEnd asked p e
-    past_is None own e is = cc
-    past_is (Some x) own e is =
-        elim (nat_lt r (length p)) as (λ b. (if b then end_by_rival asked p x (rival asked p r) else Some x) ≡ Some e → IsEnd asked p e) [
-          | true ↦ λ s. rival_end_is (rival asked p r) rival_within x e (own x refl) s
-          | false ↦ λ s. subst (IsEnd asked p) (some_same x e s) (own x refl)
-        ] is
+    by_is : (o : Option ℕ) → ((x : ℕ) → o ≡ Some x → x ≤ length p) → (e : ℕ) → end_by asked p r o ≡ Some e → IsEnd asked p e
+    by_is None within e is = next_page_is e is
+    by_is (Some x) within e is =
+        elim (is_page asked (take x p)) as (λ b. is_page asked (take x p) ≡ b → (if b then either (next_page asked p r) (Some x) else None) ≡ Some e → IsEnd asked p e) [
+          | true ↦ λ hit s. either_is (IsEnd asked p) (next_page asked p r) (Some x) next_page_is (λ y same. subst (IsEnd asked p) (some_same x y same) (hit, within x refl)) e s
+          | false ↦ λ miss s. cc
+        ] refl is
 
     pub end_of_is : (e : ℕ) → page_end_of asked p r ≡ Some e → IsEnd asked p e
     unfolding page_end_of
-    end_of_is e is = past_is (page_end asked p (own_end p r)) (page_end_is (own_end p r) own_within) e is
+    end_of_is e is = by_is (own_end p r) own_within e is
+
+-- The verdict about bytes that are all read, and accepted.
+module _ (asked : Asked) (p : List ℕ) (accepted : is_accepted p ≡ true) where
+  all : take (length p) p ≡ p
+  all = take_all (length p) p (omega arith)
+
+  whole_own : own_end p (length p) ≡ Some (length p)
+  whole_own =
+      ap (λ (o : Option ℕ). either o (end_in_run p (length p) (end_before p (last_code p (length p)))))
+      (first_down-hit (accepts p) (length p) end_tries 15 refl (ap is_accepted all ∙ accepted))
+
+  none_next : next_page asked p (length p) ≡ None
+  none_next =
+      if_false (nat_lt (length p + asked.bytes) (length p)) (either (next_anew asked p (length p)) (next_other asked p (length p))) None
+      (le-ltb (length p + asked.bytes) (length p) (omega arith))
+
+  whole_end : (b : Bool) → is_page asked p ≡ b → page_end_of asked p (length p) ≡ (if b then Some (length p) else None)
+  unfolding page_end_of
+  whole_end b is =
+      ap (end_by asked p (length p)) whole_own
+      ∙ ap (λ (t : Bool). if t then either (next_page asked p (length p)) (Some (length p)) else None) (ap (is_page asked) all ∙ is)
+      ∙ ap (λ (o : Option ℕ). if b then either o (Some (length p)) else None) none_next
+
+  verdict_whole : (b : Bool) → is_page asked p ≡ b → verdict_at asked false p (length p) ≡
+      (if nat_lt (length p) asked.bytes then Verdict.None (length p) else verdict_by_end (length p) (if b then Some (length p) else None))
+  verdict_whole b is = ap (λ (o : Option ℕ). if nat_lt (length p) asked.bytes then Verdict.None (length p) else verdict_by_end (length p) o) (whole_end b is)
+
+  pub verdict_of_page : (more : Bool) → more ≡ false → is_page asked p ≡ true → Verdict.Page (length p) ≡ verdict_at asked more p (length p)
+  unfolding is_page
+  verdict_of_page more ended is =
+      let one = and_parts (nat_le asked.bytes (length p) && is_accepted p) (draws asked (means find_budget p).entries) is in
+      let two = and_parts (nat_le asked.bytes (length p)) (is_accepted p) one.0 in
+      let long : asked.bytes ≤ length p = leb-true asked.bytes (length p) two.0 in
+      sym (ap (λ (m : Bool). verdict_at asked m p (length p)) ended ∙ verdict_whole true is
+      ∙ if_false (nat_lt (length p) asked.bytes) (Verdict.None (length p)) (Verdict.Page (length p)) (le-ltb (length p) asked.bytes long))
+
+  pub verdict_of_other : (more : Bool) → more ≡ false → is_page asked p ≡ false → Verdict.None (length p) ≡ verdict_at asked more p (length p)
+  verdict_of_other more ended is =
+      sym (ap (λ (m : Bool). verdict_at asked m p (length p)) ended ∙ verdict_whole false is ∙ same (nat_lt (length p) asked.bytes) (Verdict.None (length p)))
+    where
+      same : (t : Bool) (v : Verdict) → (if t then v else v) ≡ v
+      same true v = refl
+      same false v = refl

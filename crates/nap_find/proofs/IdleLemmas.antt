@@ -1,11 +1,10 @@
-use Rattle.std.proofs.Common.{Bool, List, None, Some, ap, arith, drop, false, if◌then◌else◌, length, min, nat_le, nat_lt, refl, sym, take, true, ℕ, ◌&&◌, ◌++◌, ◌+◌, ◌-◌, ◌<◌, ◌==◌, ◌^◌, ◌∙◌, ◌≡◌, ◌≢◌, ◌≤◌, inl, inr}
-use Rattle.std.proofs.lemmas.Bool.{cases_lt, eq-eqb, le-leb, le-ltb, lt-leb, lt-ltb, ne_eqb}
+use Rattle.std.proofs.Common.{Bool, List, Option, ap, arith, drop, false, length, min, nat_lt, refl, sym, take, true, ℕ, ◌&&◌, ◌++◌, ◌+◌, ◌-◌, ◌<◌, ◌==◌, ◌∙◌, ◌≡◌, ◌≢◌, ◌≤◌, inl, inr}
+use Rattle.std.proofs.lemmas.Bool.{and_parts, cases_lt, eq-eqb, le-ltb, lt-ltb, ltb-true, ne_eqb}
 use Rattle.std.proofs.lemmas.List.{length-take-le, take-append-drop, take_all, take_rest}
 use Rattle.nap_reader.specs.Stream.{begun}
-use Rattle.nap_find.specs.Readings.{IsRefusedAt, find_budget, idle_limit, is_idle, is_read, reach, reads, nothing_drawn}
+use Rattle.nap_find.specs.Readings.{IsExtent, IsRefusedAt, IsTried, find_budget, idle_limit, is_idle, is_read, draws_shape, reads, reads_and_draws, nothing_drawn}
 use Rattle.nap_find.specs.Shapes.{CountsDrawn, capped_sum, shapes_in}
-use Rattle.nap_find.specs.declared.drawn_sink.DrawnSink.{DrawnSink}
-use Rattle.nap_find.proofs.SearchingLemmas.{if_false, if_true}
+use Rattle.nap_find.specs.declared.{drawn_sink.DrawnSink.DrawnSink, find.Asked.Asked, reading.Extent.Extent}
 use Rattle.nap_find.proofs.ReadingLemmas.{reach_refused, reach_whole, refused_in, refused_later}
 
 -- When bytes are idle.
@@ -60,32 +59,24 @@ first_refused q k n count at =
       ],
     )
 
--- a capped count of nothing and these is at least k exactly if there are as many
-pub capped_count : (k n : ℕ) → k ≤ 2 ^ 64 - 1 → nat_le k (capped_sum 0 n) ≡ nat_le k n
-capped_count k n small =
-    elim (cases_lt n k) [
-      | inl less ↦ lt-leb k (capped_sum 0 n) (omega arith) ∙ sym (lt-leb k n less)
-      | inr enough ↦ le-leb k (capped_sum 0 n) (omega arith) ∙ sym (le-leb k n enough)
-    ]
-
 pub capped_zero : (n : ℕ) → capped_sum 0 n ≡ 0 → n ≡ 0
 capped_zero n none = omega arith
 
 -- What a reading answers.
-module _ (q : List ℕ) where
-  pub found_refused : (n : ℕ) → IsRefusedAt q n → is_idle q ≡ false → Some n ≡ (if is_idle q then None else Some (reach q))
-  found_refused n at busy = sym (ap Some (reach_refused q n at)) ∙ sym (if_false (is_idle q) None (Some (reach q)) busy)
+module _ (asked : Asked) (q : List ℕ) where
+  pub found_refused : (n : ℕ) → IsRefusedAt q n → is_idle q ≡ false → IsExtent asked q (Extent.Refused n)
+  found_refused n at busy = (busy, reach_refused q n at, omega (arith, at.within))
 
-  pub found_whole : is_read q ≡ true → is_idle q ≡ false → Some (length q) ≡ (if is_idle q then None else Some (reach q))
-  found_whole read busy = sym (ap Some (reach_whole q read)) ∙ sym (if_false (is_idle q) None (Some (reach q)) busy)
+  pub found_whole : (tried : Option Bool) → is_read q ≡ true → is_idle q ≡ false → IsTried asked q tried → IsExtent asked q (Extent.Whole tried)
+  found_whole tried read busy found = (busy, reach_whole q read, found)
 
   module _ (k : ℕ) (count : k ≡ min (length q) idle_limit) where
-    pub found_first : (n : ℕ) → IsRefusedAt (take k q) n → Some n ≡ (if is_idle q then None else Some (reach q))
+    pub found_first : (n : ℕ) → IsRefusedAt (take k q) n → IsExtent asked q (Extent.Refused n)
     found_first n at = let h = first_refused q k n count at in found_refused n h.0 h.1
 
-    pub found_short : k ≡ length q → is_read (take k q) ≡ true → Some k ≡ (if is_idle q then None else Some (reach q))
-    found_short all read =
-        ap Some all ∙ found_whole (ap is_read (sym (take_all k q (omega arith))) ∙ read) (short_not_idle q (omega arith))
+    pub found_short : (tried : Option Bool) → k ≡ length q → is_read (take k q) ≡ true → IsTried asked q tried → IsExtent asked q (Extent.Whole tried)
+    found_short tried all read found =
+        found_whole tried (ap is_read (sym (take_all k q (omega arith))) ∙ read) (short_not_idle q (omega arith)) found
 
     module _ (s t : DrawnSink) (none : s ≡ nothing_drawn) (long : k ≢ length q) (drawn : CountsDrawn s (begun find_budget (take k q)).entries t) where
       limit : k ≡ idle_limit
@@ -96,13 +87,40 @@ module _ (q : List ℕ) where
           drawn.shapes ∙ ap (λ (u : DrawnSink). capped_sum u.shapes (shapes_in (begun find_budget (take k q)).entries)) none
           ∙ ap (λ (n : ℕ). capped_sum 0 (shapes_in (begun find_budget (take n q)).entries)) limit
 
-      pub found_idle : is_read (take k q) ≡ true → t.shapes ≡ 0 → None ≡ (if is_idle q then None else Some (reach q))
-      found_idle read undrawn =
-          let idle = undrawn_idle q (omega (arith, long)) (ap (reads q) (sym limit) ∙ read) (capped_zero _ (sym counts ∙ undrawn)) in
-          sym (if_true (is_idle q) None (Some (reach q)) idle)
+      pub found_idle : is_read (take k q) ≡ true → t.shapes ≡ 0 → is_idle q ≡ true
+      found_idle read undrawn = undrawn_idle q (omega (arith, long)) (ap (reads q) (sym limit) ∙ read) (capped_zero _ (sym counts ∙ undrawn))
 
       pub drawn_busy : t.shapes ≢ 0 → is_idle q ≡ false
       drawn_busy some = drawn_not_idle q (λ undrawn. some (counts ∙ ap (capped_sum 0) undrawn))
 
-  pub joined : (k : ℕ) → take k q ++ take (length q - k) (drop k q) ≡ q
-  joined k = ap (λ (p : List ℕ). take k q ++ p) (take_rest q k) ∙ take-append-drop k q
+pub joined : (q : List ℕ) (k : ℕ) → take k q ++ take (length q - k) (drop k q) ≡ q
+joined q k = ap (λ (p : List ℕ). take k q ++ p) (take_rest q k) ∙ take-append-drop k q
+
+-- whether a shape is drawn, by a sink's count
+pub draws_some : (s t : DrawnSink) (q : List ℕ) → s ≡ nothing_drawn → CountsDrawn s (begun find_budget q).entries t → nat_lt 0 t.shapes ≡ draws_shape q
+draws_some s t q none drawn =
+    let n = shapes_in (begun find_budget q).entries in
+    let counted : t.shapes ≡ capped_sum 0 n = drawn.shapes ∙ ap (λ (u : DrawnSink). capped_sum u.shapes n) none in
+    ap (nat_lt 0) counted
+    ∙ elim (cases_lt 0 n) [
+      | inl some ↦ lt-ltb 0 (capped_sum 0 n) (omega arith) ∙ sym (lt-ltb 0 n some)
+      | inr empty ↦ le-ltb 0 (capped_sum 0 n) (omega arith) ∙ sym (le-ltb 0 n empty)
+    ]
+
+-- Whether bytes are read so far, and draw a shape.
+
+pub unread_draws : (p : List ℕ) (least : ℕ) → reads p least ≡ false → false ≡ reads_and_draws p least
+unfolding reads_and_draws
+unread_draws p least unread = rw unread refl
+
+pub later_draws : (p : List ℕ) (least : ℕ) (b : Bool) → reads p least ≡ true → draws_shape (take least p) ≡ false → b ≡ draws_shape p → b ≡ reads_and_draws p least
+unfolding reads_and_draws
+later_draws p least b read none some = rw (read, none) some
+
+-- idle bytes are more than the limit
+pub idle_long : (p : List ℕ) → is_idle p ≡ true → idle_limit < length p
+unfolding is_idle
+idle_long p idle =
+    let one = and_parts (nat_lt idle_limit (length p) && reads p idle_limit) (shapes_in (begun find_budget (take idle_limit p)).entries == 0) idle in
+    let two = and_parts (nat_lt idle_limit (length p)) (reads p idle_limit) one.0 in
+    ltb-true idle_limit (length p) two.0

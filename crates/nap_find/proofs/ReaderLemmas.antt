@@ -1,14 +1,16 @@
-use Rattle.std.proofs.Common.{Err, List, None, Option, Some, [], ap, arith, is_none, length, length-append, slice_index, subst, sym, take, true, ℕ, ◌++◌, ◌+◌, ◌∙◌, ◌∷◌, ◌≡◌, append_assoc}
+use Rattle.std.proofs.Common.{Bool, List, None, Option, Some, [], ap, append_assoc, arith, false, inl, inr, is_none, length, length-append, nat_le, refl, slice_index, subst, sym, take, true, ℕ, ◌&&◌, ◌++◌, ◌+◌, ◌-◌, ◌^◌, ◌∙◌, ◌∷◌, ◌≡◌, ◌≤◌}
+use Rattle.std.proofs.lemmas.Bool.{cases_lt, le-leb, lt-leb}
 use Rattle.std.proofs.Math.Seq.{take-append-add}
 use Rattle.std.proofs.lemmas.List.{take_more}
 use Rattle.nap_list.specs.declared.sink.Sink.{Ghosts}
 use Rattle.nap_reader.specs.Breaking.{cause_of}
-use Rattle.nap_reader.specs.ReaderAnswers.{Answers, HasRead, IsKnown, StopsAt, StopsBy, budget_of, fed_of, left_of, refusal_of, sink_of}
-use Rattle.nap_reader.specs.Collecting.{IsRead, RefusedBy}
+use Rattle.nap_reader.specs.ReaderAnswers.{Answers, AnswersBy, HasRead, IsKnown, StopsAt, StopsBy, budget_of, fed_of, left_of, refusal_of, sink_of}
 use Rattle.nap_reader.specs.Stream.{begun, means}
 use Rattle.nap_reader.specs.declared.{fault.Refusal.Refusal, reader.Reader.Reader}
 use Rattle.nap_draw.specs.Draws.{Cause, stream}
-use Rattle.nap_find.specs.{Readings.CountsAccepted, Readings.IsRefusedAt, Readings.find_budget, Readings.is_accepted, Readings.is_read, Readings.nothing_drawn, Shapes.CountsDrawn, declared.drawn_sink.DrawnSink.DrawnSink}
+use Rattle.nap_find.specs.Readings.{IsRefusedAt, IsTried, find_budget, is_accepted, is_page, is_read, nothing_drawn}
+use Rattle.nap_find.specs.Shapes.{CountsDrawn, capped_sum, shapes_in}
+use Rattle.nap_find.specs.declared.{drawn_sink.DrawnSink.DrawnSink, find.Asked.Asked}
 
 -- What a reader shows of the bytes that it has read.
 
@@ -19,6 +21,16 @@ module _ {S : Type 0} {g : Ghosts S} where
   known_of reader s q has unrefused budget =
       subst (λ (b : ℕ). IsKnown g s (begun b q) (sink_of reader) (left_of reader) None) budget
       (subst (λ (a : Option Refusal). Answers g s (budget_of reader) q (sink_of reader) (left_of reader) a) unrefused has.answers)
+
+  -- what a reader that has refused the stream has put into its sink
+  pub taken_of : (reader : Reader S g) (s : S) (q : List ℕ) (r : Refusal) → HasRead reader s q → refusal_of reader ≡ Some r → budget_of reader ≡ find_budget →
+      cause_of r.fault ≡ stream → g.took s (begun find_budget q).entries (sink_of reader)
+  taken_of reader s q r has refused budget own =
+      let answered : AnswersBy g s (budget_of reader) q (sink_of reader) (left_of reader) r (cause_of r.fault) =
+      subst (λ (a : Option Refusal). Answers g s (budget_of reader) q (sink_of reader) (left_of reader) a) refused has.answers in
+      let known : IsKnown g s (begun (budget_of reader) q) (sink_of reader) (left_of reader) (Some r) =
+      subst (λ (c : Cause). AnswersBy g s (budget_of reader) q (sink_of reader) (left_of reader) r c) own answered in
+      subst (λ (b : ℕ). g.took s (begun b q).entries (sink_of reader)) budget known.taken
 
   -- all bytes are read where nothing is refused
   pub read_all : (reader : Reader S g) (s : S) (q : List ℕ) → HasRead reader s q → refusal_of reader ≡ None → budget_of reader ≡ find_budget → is_read q ≡ true
@@ -46,18 +58,38 @@ module _ {S : Type 0} {g : Ghosts S} where
         refused = ap is_read parts ∙ ap is_none (subst (λ (b : ℕ). (begun b ((p ++ take i piece) ++ slice_index piece i ∷ [])).refusal ≡ Some r) budget known.refusal);
       }
 
-  -- a refusal of the stream itself
-  pub refused_own : (s : S) (budget : ℕ) (p : List ℕ) (r : Refusal) → IsRead g s budget p (Err r) → cause_of r.fault ≡ stream → (means budget p).refusal ≡ Some r
-  refused_own s budget p r read own = subst (λ (c : Cause). RefusedBy g s budget p r c) own read.collects
+-- The list of an accepted stream, by the counts of its sink.
 
-pub counted : (s sink : DrawnSink) (budget : ℕ) (p : List ℕ) → budget ≡ find_budget → s ≡ nothing_drawn → (means budget p).refusal ≡ None → CountsDrawn s (means budget p).entries sink →
-    CountsAccepted p (Some sink)
-unfolding is_accepted
-counted s sink budget p usual none accepted counts = (
-  ap is_none (subst (λ (b : ℕ). (means b p).refusal ≡ None) usual accepted),
-  subst (λ (b : ℕ). CountsDrawn nothing_drawn (means b p).entries sink) usual (subst (λ (t : DrawnSink). CountsDrawn t (means budget p).entries sink) none counts),
-)
+count_least : (k n : ℕ) → k ≤ 2 ^ 64 - 1 → nat_le k (capped_sum 0 n) ≡ nat_le k n
+count_least k n small =
+    elim (cases_lt n k) [
+      | inl less ↦ lt-leb k (capped_sum 0 n) (omega arith) ∙ sym (lt-leb k n less)
+      | inr enough ↦ le-leb k (capped_sum 0 n) (omega arith) ∙ sym (le-leb k n enough)
+    ]
 
-pub not_counted : (budget : ℕ) (p : List ℕ) (r : Refusal) → budget ≡ find_budget → (means budget p).refusal ≡ Some r → CountsAccepted p None
+same_and : (b e g : Bool) → (b && e && g) ≡ (b && true && (e && g))
+same_and true true g = refl
+same_and true false g = refl
+same_and false e g = refl
+
+join : (a b c d e f g : Bool) → a ≡ b → c ≡ true → d ≡ e → f ≡ g → (a && d && f) ≡ (b && c && (e && g))
+join a b c d e f g one two three four = rw (one, two, three, four) (same_and b e g)
+
+-- all bytes are read, and accepted
+pub accepted_page : (asked : Asked) (s sink : DrawnSink) (budget count : ℕ) (p : List ℕ) → budget ≡ find_budget → s ≡ nothing_drawn → length p ≡ count → asked.entries ≤ 2 ^ 64 - 1 → asked.shapes ≤ 2 ^ 64 - 1 →
+    (means budget p).refusal ≡ None → CountsDrawn s (means budget p).entries sink →
+    IsTried asked p (Some (nat_le asked.bytes count && nat_le asked.entries sink.entries && nat_le asked.shapes sink.shapes))
+unfolding is_accepted is_page
+accepted_page asked s sink budget count p usual none size few_entries few_shapes accepted counts =
+    let o = means find_budget p in
+    let here : o.refusal ≡ None = subst (λ (b : ℕ). (means b p).refusal ≡ None) usual accepted in
+    let drawn : CountsDrawn nothing_drawn o.entries sink =
+    subst (λ (b : ℕ). CountsDrawn nothing_drawn (means b p).entries sink) usual (subst (λ (t : DrawnSink). CountsDrawn t (means budget p).entries sink) none counts) in
+    let taken : is_none o.refusal ≡ true = ap is_none here in
+    let entries : nat_le asked.entries sink.entries ≡ nat_le asked.entries (length o.entries) = ap (nat_le asked.entries) drawn.entries ∙ count_least asked.entries (length o.entries) few_entries in
+    let shapes : nat_le asked.shapes sink.shapes ≡ nat_le asked.shapes (shapes_in o.entries) = ap (nat_le asked.shapes) drawn.shapes ∙ count_least asked.shapes (shapes_in o.entries) few_shapes in
+    (taken, join (nat_le asked.bytes count) (nat_le asked.bytes (length p)) (is_none o.refusal) (nat_le asked.entries sink.entries) (nat_le asked.entries (length o.entries)) (nat_le asked.shapes sink.shapes) (nat_le asked.shapes (shapes_in o.entries)) (ap (nat_le asked.bytes) (sym size)) taken entries shapes)
+
+pub refused_page : (asked : Asked) (budget : ℕ) (p : List ℕ) (r : Refusal) → budget ≡ find_budget → (means budget p).refusal ≡ Some r → IsTried asked p None
 unfolding is_accepted
-not_counted budget p r usual refused = ap is_none (subst (λ (b : ℕ). (means b p).refusal ≡ Some r) usual refused)
+refused_page asked budget p r usual refused = ap is_none (subst (λ (b : ℕ). (means b p).refusal ≡ Some r) usual refused)

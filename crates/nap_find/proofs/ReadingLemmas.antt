@@ -1,11 +1,12 @@
-use Rattle.std.proofs.Common.{Bool, List, None, Option, Some, ap, arith, drop, false, is_none, length, refl, subst, sym, take, true, ℕ, ◌++◌, ◌+◌, ◌<◌, ◌∙◌, ◌≡◌, ◌≢◌, ◌≤◌}
+use Rattle.std.proofs.Common.{Bool, List, None, Option, Some, ap, arith, drop, false, is_none, length, nat_le, refl, subst, sym, take, true, ℕ, ◌&&◌, ◌++◌, ◌+◌, ◌<◌, ◌∙◌, ◌≡◌, ◌≢◌, ◌≤◌}
 use Rattle.std.proofs.lemmas.List.{take-append-drop, take-take, take_all}
 use Rattle.nap_reader.proofs.PublicLaws.{more_bytes_keep_refusal}
 use Rattle.nap_reader.specs.Breaking.{cause_of}
-use Rattle.nap_reader.specs.Stream.{Outcome, begun}
+use Rattle.nap_reader.specs.Stream.{Outcome, begun, means}
 use Rattle.nap_reader.specs.declared.fault.{Fault.Fault, Refusal.Refusal}
 use Rattle.nap_draw.specs.Draws.{stream}
-use Rattle.nap_find.specs.Readings.{IsRefusedAt, accepts, find_budget, is_accepted, is_read, reach, reads}
+use Rattle.nap_find.specs.Readings.{IsRefusedAt, accepts, draws, find_budget, is_accepted, is_page, is_read, reach, reads}
+use Rattle.nap_find.specs.declared.find.Asked.{Asked}
 use Rattle.nap_find.proofs.SearchingLemmas.{greatest-is}
 
 -- Readings of more and of fewer bytes.
@@ -61,3 +62,13 @@ own_cause _ other own = refl
 -- what a reading of a prefix tells
 pub accepts_at : (xs : List ℕ) (n : ℕ) (b v : Bool) → b ≡ is_accepted (take n xs) → b ≡ v → accepts xs n ≡ v
 accepts_at xs n b v is said = sym is ∙ said
+
+-- what is refused is no page
+pub refused_no_page : (asked : Asked) (p : List ℕ) → is_accepted p ≡ false → is_page asked p ≡ false
+unfolding is_page
+refused_no_page asked p refused =
+    rw refused (ap (λ (b : Bool). b && draws asked (means find_budget p).entries) (and_false (nat_le asked.bytes (length p))))
+  where
+    and_false : (b : Bool) → (b && false) ≡ false
+    and_false true = refl
+    and_false false = refl

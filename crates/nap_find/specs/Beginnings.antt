@@ -1,4 +1,4 @@
-use Rattle.std.specs.Prelude.{Bool, List, get_or, nat_le, nat_lt, ℕ, ◌&&◌, ◌+◌, ◌==◌, ◌||◌}
+use Rattle.std.specs.Prelude.{Bool, List, get_or, nat_le, nat_lt, ℕ, ◌&&◌, ◌+◌, ◌-◌, ◌==◌, ◌||◌}
 
 -- Where a page can begin.
 
@@ -21,3 +21,11 @@ begins_with b c d = (b == 0x0C) || (b == 0x0E && is_within 0x20 0x40 c) || (b ==
 -- whether a page can begin at this index
 abbrev pub begins : List ℕ → ℕ → Bool
 begins p at = begins_with (get_or p at 0) (get_or p (at + 1) 0) (get_or p (at + 2) 0)
+
+-- whether a page begins anew at this index: with CS, or with SO before RESET or DOMAIN
+abbrev pub begins_anew : List ℕ → ℕ → Bool
+begins_anew p at = (get_or p at 0 == 0x0C) || (get_or p at 0 == 0x0E && is_within 0x20 0x22 (get_or p (at + 1) 0))
+
+-- whether a beginning at this index only goes on with another: it comes after CS, or after SO, DOMAIN and a byte
+abbrev pub goes_on : List ℕ → ℕ → Bool
+goes_on p at = (get_or p (at - 1) 0 == 0x0C) || (get_or p (at - 3) 0 == 0x0E && get_or p (at - 2) 0 == 0x21)

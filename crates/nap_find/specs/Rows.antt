@@ -1,4 +1,4 @@
-use Rattle.std.specs.Prelude.{Bool, List, [], drop, false, get_or, if◌then◌else◌, length, map, min, nat_le, nat_lt, take, true, ℕ, ◌&&◌, ◌++◌, ◌+◌, ◌-◌, ◌==◌, ◌||◌, ◌∷◌}
+use Rattle.std.specs.Prelude.{Bool, List, [], drop, false, get_or, if◌then◌else◌, length, map, min, nat_le, nat_lt, not, take, true, ℕ, ◌&&◌, ◌++◌, ◌+◌, ◌-◌, ◌==◌, ◌||◌, ◌∷◌}
 use Rattle.nap_find.specs.Beginnings.{is_opener}
 use Rattle.nap_find.specs.Shapes.{capped_sum}
 use Rattle.nap_find.specs.Verdicts.{Block, Span, block_of}
@@ -10,8 +10,9 @@ use Rattle.nap_find.specs.declared.find.{Asked.Asked, Find.Find}
 abbrev pub block_limit : ℕ
 block_limit = 1048576
 
--- What is known of bytes: their finds; the row that is open, with its place and the number of equal bytes at its end;
--- and the number of beginnings that were passed over. If no row is open, the place is that of the next byte.
+-- What is known of bytes: their finds; the row that is open, with its place and the number of equal bytes at its end, if
+-- they can be a fill; and the number of beginnings that were passed over. If no row is open, the place is that of the
+-- next byte.
 pub record Finding : Type 0 where
   pub finds : List Find
   pub passed : ℕ
@@ -39,9 +40,17 @@ closed_at place f = record f { place = place; row = []; same = 0 }
 abbrev pub end_row : Asked → Finding → List ℕ → ℕ → Finding
 end_row asked f bytes place = closed_at place (with_block f (block_of asked false bytes))
 
--- the number of equal bytes at the end of a row, counted to 256, once this byte comes
+-- whether equal bytes can be a fill
+abbrev pub can_fill : ℕ → Bool
+can_fill b = (b == 0x00) || (b == 0x1A) || (b == 0x20)
+
+-- whether a byte only makes a row longer
+abbrev pub is_plain : ℕ → Bool
+is_plain b = nat_lt b 128 && not (can_fill b)
+
+-- the number of equal bytes at the end of a row that can be a fill, counted to 256, once this byte comes
 abbrev pub same_with : List ℕ → ℕ → ℕ → ℕ
-same_with row same b = if b == get_or row (length row - 1) 0 then min (same + 1) 256 else 1
+same_with row same b = if can_fill b then (if b == get_or row (length row - 1) 0 then min (same + 1) 256 else 1) else 0
 
 -- whether so many equal bytes are a fill: 16 of 00, 8 of 1A, 256 of 20
 abbrev pub makes_fill : ℕ → ℕ → Bool

@@ -1,6 +1,6 @@
 //! Where a page can begin.
 ghost use Rattle.std.specs.Prelude.{◌≡◌, ◌-◌, ◌≤◌, ◌<◌, IfSome, max, length, get_or};
-ghost use Rattle.nap_find.specs.Beginnings.{begins, begins_with, defines, is_opener, is_within};
+ghost use Rattle.nap_find.specs.Beginnings.{begins, begins_anew, begins_with, defines, goes_on, is_opener, is_within};
 ghost use Rattle.nap_find.specs.Ends.{retry_from};
 ghost use Rattle.nap_find.specs.Searching.{first_from, last_few};
 ghost use Rattle.nap_find.specs.Verdicts.{next_beginning, passed_over};
@@ -58,6 +58,25 @@ pub(crate) fn begins(bytes: &[u8], at: usize) -> bool
     )
 }
 
+/// Whether a page begins anew at this index.
+pub(crate) fn begins_anew(bytes: &[u8], at: usize) -> bool
+    requires { at ≤ length bytes.now }
+    ensures { result ≡ begins_anew bytes.now at }
+{
+    byte_at(bytes, at) == 0x0C
+        || (byte_at(bytes, at) == 0x0E
+            && is_within(0x20, 0x22, byte_at(bytes, at.saturating_add(1))))
+}
+
+/// Whether a beginning at this index only goes on with another.
+pub(crate) fn goes_on(bytes: &[u8], at: usize) -> bool
+    ensures { result ≡ goes_on bytes.now at }
+{
+    byte_at(bytes, at.saturating_sub(1)) == 0x0C
+        || (byte_at(bytes, at.saturating_sub(3)) == 0x0E
+            && byte_at(bytes, at.saturating_sub(2)) == 0x21)
+}
+
 /// Returns the next index at which a page can begin.
 pub(crate) fn next_beginning(bytes: &[u8], from: usize) -> Option<usize>
     ensures found { result ≡ next_beginning bytes.now from }
@@ -71,14 +90,14 @@ pub(crate) fn next_beginning(bytes: &[u8], from: usize) -> Option<usize>
     None
 }
 
-/// Returns the first of the last beginnings before an index.
-pub(crate) fn retry_from(bytes: &[u8], reach: usize) -> usize
+/// Returns the first of at most `most` last beginnings before an index, or of what is after earlier ones.
+pub(crate) fn last_beginnings(bytes: &[u8], reach: usize, most: usize) -> usize
     requires { reach ≤ length bytes.now }
-    ensures place { result ≡ retry_from bytes.now reach }
+    ensures place { result ≡ last_few (begins bytes.now) most 1 (reach - 1) }
     ensures least { 1 ≤ result }
     ensures most { result ≤ max 1 reach }
 {
-    let mut left = MOST_READINGS - 1;
+    let mut left = most;
     let mut count = reach.saturating_sub(1);
     while count > 0 {
         if begins(bytes, count) {
@@ -90,6 +109,16 @@ pub(crate) fn retry_from(bytes: &[u8], reach: usize) -> usize
         count -= 1;
     }
     1
+}
+
+/// Returns the first of the last beginnings before an index.
+pub(crate) fn retry_from(bytes: &[u8], reach: usize) -> usize
+    requires { reach ≤ length bytes.now }
+    ensures place { result ≡ retry_from bytes.now reach }
+    ensures least { 1 ≤ result }
+    ensures most { result ≤ max 1 reach }
+{
+    last_beginnings(bytes, reach, MOST_READINGS - 1)
 }
 
 /// Returns the number of beginnings that are passed over.

@@ -3,8 +3,9 @@ ghost use Rattle.std.specs.Prelude.{◌≡◌, ◌∷◌, [], false};
 ghost use Rattle.nap_list.specs.State.{start};
 ghost use Rattle.nap_find.specs.Shapes.{CountsDrawn, capped_sum, shapes_in};
 ghost use Rattle.nap_find.specs.ShapeLaws.{drawn_more, drawn_none};
+ghost use Rattle.nap_list.specs.Batches.{batch_entries};
 
-use nap_list::{Entry, GhostState, Shape, Sink, SinkFault};
+use nap_list::{Batch, BatchFault, Entry, GhostState, Shape, Sink, SinkFault};
 use std::alloc::Global;
 
 /// Counts the entries that it takes, and the shapes among them. A count stops at the greatest `u64`.
@@ -45,6 +46,17 @@ fn shapes_of_entry(entry: &Entry) -> u64
     }
 }
 
+/// Returns the number of shapes of a batch.
+fn shapes_of_batch(batch: &Batch) -> u64
+    ensures { result ≡ shapes_in (batch_entries batch.now) }
+{
+    match batch {
+        Batch::Points { points, .. } => points.len() as u64,
+        Batch::Lines { points, .. } => points.len() as u64,
+        Batch::Text { .. } => 0,
+    }
+}
+
 /// Returns a sum that grows no further than the greatest `u64`.
 pub(crate) fn capped_sum(a: u64, b: u64) -> u64
     ensures { result ≡ capped_sum a b }
@@ -67,6 +79,13 @@ impl Sink for DrawnSink {
         self.entries = capped_sum(self.entries, 1);
         self.shapes = capped_sum(self.shapes, shapes_of_entry(&entry));
         self.state = self.state.after(&entry);
+        Ok(())
+    }
+
+    fn put_batch(&mut self, batch: &Batch) -> Result<(), BatchFault> {
+        self.entries = capped_sum(self.entries, batch.len() as u64);
+        self.shapes = capped_sum(self.shapes, shapes_of_batch(batch));
+        self.state = self.state.after_first(batch, batch.len());
         Ok(())
     }
 

@@ -1,19 +1,28 @@
 //! Where a page ends.
 ghost use Rattle.std.specs.Prelude.{◌≡◌, ◌≤◌, IfOk, IfSome, length};
-ghost use Rattle.nap_find.specs.Ends.{end_before, page_end_of, halvings, last_code, own_end, page_end};
+ghost use Rattle.nap_find.specs.Ends.{IsEndFound, end_before, halvings, last_code, own_end, page_end_of};
 ghost use Rattle.nap_find.specs.Readings.{accepts};
 ghost use Rattle.nap_find.specs.Searching.{halved};
 
 use crate::find::Asked;
-use crate::reading::{is_accepted, is_page};
-use crate::rival::rival;
+use crate::next::next_page;
+use crate::reading::{is_accepted, is_page, try_page};
 use std::alloc::{AllocError, Global};
 
 /// The number of ends that are tried, one before another.
-const END_TRIES: usize = 8;
+const END_TRIES: usize = 16;
 
 /// The number of times that a run is halved.
 const HALVINGS: u32 = 20;
+
+/// An accepted end.
+#[derive(Clone, Copy, Drop)]
+pub(crate) struct End {
+    /// The number of bytes before it.
+    pub(crate) at: usize,
+    /// Whether these bytes are a page.
+    pub(crate) is_page: bool,
+}
 
 /// Returns the index of the last code byte before an index, or 0.
 fn last_code(bytes: &[u8], reach: usize) -> usize
@@ -32,23 +41,32 @@ fn last_code(bytes: &[u8], reach: usize) -> usize
 }
 
 /// Returns the first accepted end at or before this one.
-fn end_before(alloc: Global, bytes: &[u8], end: usize) -> Result<Option<usize>, AllocError>
+fn end_before(
+    alloc: Global,
+    asked: &Asked,
+    bytes: &[u8],
+    end: usize,
+) -> Result<Option<End>, AllocError>
     requires { end ≤ length bytes.now }
-    ensures found { IfOk result (λ found. found ≡ end_before bytes.now end) }
-    ensures within { IfOk result (λ found. IfSome found (λ e. e ≤ length bytes.now)) }
+    ensures { IfOk result (λ found. IsEndFound asked.now bytes.now (end_before bytes.now end) found) }
 {
     for tried in 0..END_TRIES {
         let at = end.saturating_sub(tried);
-        let accepted = is_accepted(alloc, &bytes[..at])?;
-        if accepted {
-            return Ok(Some(at));
+        if let Some(is_page) = try_page(alloc, asked, &bytes[..at])? {
+            return Ok(Some(End { at, is_page }));
         }
     }
     Ok(None)
 }
 
 /// Returns the accepted end that halving finds between an accepted one and one that isn't.
-fn halved(alloc: Global, bytes: &[u8], from: usize, to: usize) -> Result<usize, AllocError>
+fn halved(
+    alloc: Global,
+    asked: &Asked,
+    bytes: &[u8],
+    from: usize,
+    to: usize,
+) -> Result<usize, AllocError>
     requires from { from ≤ length bytes.now }
     requires to { to ≤ length bytes.now }
     ensures found { IfOk result (λ found. found ≡ halved (accepts bytes.now) from to halvings) }
@@ -61,7 +79,7 @@ fn halved(alloc: Global, bytes: &[u8], from: usize, to: usize) -> Result<usize, 
             return Ok(low);
         }
         let middle = (low + high) / 2;
-        let accepted = is_accepted(alloc, &bytes[..middle])?;
+        let accepted = is_accepted(alloc, asked, &bytes[..middle])?;
         if accepted {
             low = middle;
         } else {
@@ -72,41 +90,28 @@ fn halved(alloc: Global, bytes: &[u8], from: usize, to: usize) -> Result<usize, 
 }
 
 /// Returns the end by the bytes that are read.
-fn own_end(alloc: Global, bytes: &[u8], reach: usize) -> Result<Option<usize>, AllocError>
-    requires { reach ≤ length bytes.now }
-    ensures found { IfOk result (λ found. found ≡ own_end bytes.now reach) }
-    ensures within { IfOk result (λ found. IfSome found (λ e. e ≤ length bytes.now)) }
-{
-    let accepted = is_accepted(alloc, &bytes[..reach])?;
-    if accepted {
-        return Ok(Some(reach));
-    }
-    let before = end_before(alloc, bytes, last_code(bytes, reach))?;
-    match before {
-        Some(low) => {
-            let end = halved(alloc, bytes, low, reach)?;
-            Ok(Some(end))
-        }
-        None => Ok(None),
-    }
-}
-
-/// Returns the end, if the bytes before it are a page.
-fn page_end(
+fn own_end(
     alloc: Global,
     asked: &Asked,
     bytes: &[u8],
-    end: Option<usize>,
-) -> Result<Option<usize>, AllocError>
-    requires { IfSome end (λ e. e ≤ length bytes.now) }
-    ensures found { IfOk result (λ found. found ≡ page_end asked.now bytes.now end) }
-    ensures within { IfOk result (λ found. IfSome found (λ e. e ≤ length bytes.now)) }
+    reach: usize,
+) -> Result<Option<End>, AllocError>
+    requires { reach ≤ length bytes.now }
+    ensures { IfOk result (λ found. IsEndFound asked.now bytes.now (own_end bytes.now reach) found) }
 {
-    let Some(end) = end else {
-        return Ok(None);
-    };
-    let found = is_page(alloc, asked, &bytes[..end])?;
-    if found { Ok(Some(end)) } else { Ok(None) }
+    let last = end_before(alloc, asked, bytes, reach)?;
+    if let Some(end) = last {
+        return Ok(Some(end));
+    }
+    let before = end_before(alloc, asked, bytes, last_code(bytes, reach))?;
+    match before {
+        Some(low) => {
+            let at = halved(alloc, asked, bytes, low.at, reach)?;
+            let is_page = is_page(alloc, asked, &bytes[..at])?;
+            Ok(Some(End { at, is_page }))
+        }
+        None => Ok(None),
+    }
 }
 
 /// Returns the end of the page that the bytes begin with, if there is one.
@@ -121,20 +126,15 @@ pub(crate) fn page_end_of(
     ensures found { IfOk result (λ found. found ≡ page_end_of asked.now bytes.now reach) }
     ensures within { IfOk result (λ found. IfSome found (λ e. e ≤ length bytes.now)) }
 {
-    let own = own_end(alloc, bytes, reach)?;
-    let found = page_end(alloc, asked, bytes, own)?;
-    let Some(end) = found else {
-        return Ok(None);
+    let own = own_end(alloc, asked, bytes, reach)?;
+    let Some(end) = own else {
+        return next_page(alloc, asked, bytes, reach);
     };
-    if reach == bytes.len() {
-        return Ok(Some(end));
+    if !end.is_page {
+        return Ok(None);
     }
-    let other = rival(alloc, asked, bytes, reach)?;
-    match other {
-        Some(at) => {
-            let before = end_before(alloc, bytes, at)?;
-            page_end(alloc, asked, bytes, before)
-        }
-        None => Ok(Some(end)),
+    match next_page(alloc, asked, bytes, reach)? {
+        Some(at) => Ok(Some(at)),
+        None => Ok(Some(end.at)),
     }
 }

@@ -1,7 +1,7 @@
 //! Finds in bytes that come in pieces.
 ghost use Rattle.std.specs.Prelude.{◌≡◌, ◌+◌, ◌<◌, ◌≤◌, ◌^◌, ◌-◌, [], IfOk, OnOk, OnErr, IsErr, length, drop, take, true, false, ◌==◌, get_or, ℕ};
 ghost use Rattle.nap_find.specs.Beginnings.{is_opener};
-ghost use Rattle.nap_find.specs.Rows.{finds_of, found_of, makes_fill, open_of, same_with};
+ghost use Rattle.nap_find.specs.Rows.{block_limit, can_fill, finds_of, found_of, is_plain, makes_fill, open_of, same_with};
 
 use crate::beginning::is_opener;
 use crate::block::find_in_block;
@@ -35,6 +35,35 @@ fn before_opener(piece: &[u8]) -> usize
         Some(index) => index,
         None => piece.len(),
     }
+}
+
+/// Whether equal bytes can be a fill.
+fn can_fill(byte: u8) -> bool
+    ensures { result ≡ can_fill byte }
+{
+    byte == 0x00 || byte == 0x1A || byte == 0x20
+}
+
+/// Whether a byte only makes a row longer.
+fn is_plain(byte: u8) -> bool
+    ensures { result ≡ is_plain byte }
+{
+    byte < 0x80 && !can_fill(byte)
+}
+
+/// Returns the number of bytes before the first one that isn't plain, or `most` if that is less.
+fn plain_count(piece: &[u8], most: usize) -> usize
+    ensures within { result ≤ length piece.now }
+    ensures most { result ≤ most }
+    ensures plain { (k : ℕ) → k < result → is_plain (get_or piece.now k 0) ≡ true }
+{
+    let count = piece.len().min(most);
+    for index in 0..count {
+        if !is_plain(piece[index]) {
+            return index;
+        }
+    }
+    count
 }
 
 /// Whether so many equal bytes are a fill.
@@ -110,12 +139,15 @@ impl Finder {
         Ok(())
     }
 
-    /// Returns the number of equal bytes at the end of the row, counted to the limit, once this byte comes.
+    /// Returns the number of equal bytes at the end of the row that can be a fill, counted to the limit, once this byte
+    /// comes.
     fn same_with(&self, byte: u8) -> usize
         requires { 0 < length self.now.row.items }
         ensures { result ≡ same_with self.now.row.items self.now.same byte }
     {
-        if byte == self.row[self.row.len() - 1] {
+        if !can_fill(byte) {
+            0
+        } else if byte == self.row[self.row.len() - 1] {
             self.same.saturating_add(1).min(SAME_LIMIT)
         } else {
             1
@@ -188,6 +220,27 @@ impl Finder {
         count
     }
 
+    /// Takes the first bytes that only make the open row longer, if one is open, and returns their number.
+    fn take_plain(&mut self, piece: &[u8]) -> Result<usize, AllocError>
+        requires { length_so_far self.old + length piece.now < 2 ^ 63 }
+        ensures finding { IfOk result (λ count. (found : Found) → find_on self.old.asked (finding_of self.new found) (drop count piece.now) ≡ find_on self.old.asked (finding_of self.old found) piece.now) }
+        ensures within { IfOk result (λ count. count ≤ length piece.now) }
+        ensures bytes { IfOk result (λ count. length_so_far self.new ≡ length_so_far self.old + count) }
+        ensures asked { self.new.asked ≡ self.old.asked }
+        ensures lacks { self.new.lacks ≡ self.old.lacks }
+    {
+        let open = self.row.len();
+        if open == 0 || open >= BLOCK_LIMIT {
+            return Ok(0);
+        }
+        let count = plain_count(piece, BLOCK_LIMIT - 1 - open);
+        if count > 0 {
+            self.row.extend_from_slice(&piece[..count])?;
+            self.same = 0;
+        }
+        Ok(count)
+    }
+
     /// Takes the bytes of a piece.
     fn take_all(&mut self, piece: &[u8], found: &mut Found) -> Result<(), AllocError>
         requires { length_so_far self.old + length piece.now < 2 ^ 63 }
@@ -198,7 +251,10 @@ impl Finder {
     {
         let mut at = 0;
         while at < piece.len() {
-            at += self.pass_over(&piece[at..]);
+            let passed = self.pass_over(&piece[at..]);
+            at += passed;
+            let plain = self.take_plain(&piece[at..])?;
+            at += plain;
             if at < piece.len() {
                 self.step(piece[at], found)?;
                 at += 1;

@@ -8,8 +8,8 @@ mod end;
 mod find;
 mod finder;
 pub mod laws;
+mod next;
 mod reading;
-mod rival;
 mod verdict;
 
 pub use find::{Asked, Find, Found};

@@ -1,11 +1,13 @@
 //! Readings of bytes as a page.
-ghost use Rattle.std.specs.Prelude.{◌≡◌, ◌+◌, ◌<◌, ◌≤◌, ◌^◌, ◌++◌, ℕ, List, [], None, Some, IfOk, IsTrue, IfSome, MatchOption, if◌then◌else◌, length};
-ghost use Rattle.nap_reader.specs.ReaderAnswers.{HasRead, budget_of, fed_of, refusal_of};
-ghost use Rattle.nap_find.specs.Readings.{CountsAccepted, IsReadTo, find_budget, idle_limit, is_accepted, is_idle, is_page, is_read, reach};
+ghost use Rattle.std.specs.Prelude.{◌≡◌, ◌+◌, ◌<◌, ◌≤◌, ◌^◌, ◌++◌, ◌&&◌, nat_le, ℕ, List, [], None, Some, IfOk, IsTrue, IfSome, MatchOption, if◌then◌else◌, length, true, false};
+ghost use Rattle.nap_reader.specs.ReaderAnswers.{HasRead, budget_of, fed_of, refusal_of, sink_of};
+ghost use Rattle.nap_reader.specs.Stream.{begun};
+ghost use Rattle.nap_find.specs.Readings.{CountsAccepted, IsExtent, IsReadTo, IsTried, find_budget, idle_limit, is_accepted, is_idle, is_page, nothing_drawn, reach, reads_and_draws};
+ghost use Rattle.nap_find.specs.Shapes.{CountsDrawn};
 
 use crate::drawn_sink::DrawnSink;
 use crate::find::Asked;
-use nap_reader::{Budget, Fault, Reader, read_stream};
+use nap_reader::{Budget, Fault, Reader};
 use std::alloc::{AllocError, Global};
 
 /// The bytes of macro bodies that a reading may be charged.
@@ -13,6 +15,17 @@ const FIND_BUDGET: u32 = 65_536;
 
 /// The bytes in which a page has drawn a shape, if it is longer.
 pub(crate) const IDLE_LIMIT: usize = 8_192;
+
+/// How far bytes are read.
+#[derive(Clone, Copy, Drop)]
+pub(crate) enum Extent {
+    /// The first bytes, as many as the limit, draw no shape, and more follow.
+    Idle,
+    /// This many bytes are read, and the next one is refused.
+    Refused(usize),
+    /// All bytes are read. If they are accepted, whether they are a page.
+    Whole(Option<bool>),
+}
 
 /// Returns the budget of a reading.
 fn find_budget() -> Budget
@@ -34,6 +47,7 @@ fn refused_index(reader: &mut Reader<DrawnSink>, piece: &[u8]) -> Result<Option<
     ensures unrefused { IfOk result (λ found. found ≡ None → refusal_of reader.new ≡ None) }
     ensures fed { IfOk result (λ found. found ≡ None → fed_of reader.new ≡ fed_of reader.old + length piece.now) }
     ensures budget { budget_of reader.new ≡ find_budget }
+    ensures drawn { IfOk result (λ _. (s : DrawnSink) (p : List ℕ) → HasRead reader.old s p → CountsDrawn s (begun find_budget (p ++ piece.now)).entries (sink_of reader.new)) }
 {
     match reader.feed(piece) {
         Ok(()) => Ok(None),
@@ -44,74 +58,100 @@ fn refused_index(reader: &mut Reader<DrawnSink>, piece: &[u8]) -> Result<Option<
     }
 }
 
-/// Returns how many of the bytes are read before one is refused; or nothing if the first ones, as many as the limit,
-/// draw no shape, and more follow.
-pub(crate) fn reach_unless_idle(alloc: Global, bytes: &[u8]) -> Result<Option<usize>, AllocError>
-    ensures found { IfOk result (λ found. found ≡ (if is_idle bytes.now then None else Some (reach bytes.now))) }
-    ensures within { IfOk result (λ found. IfSome found (λ n. n ≤ length bytes.now)) }
-    ensures idle { IfOk result (λ found. found ≡ None → idle_limit < length bytes.now) }
+/// Whether an accepted stream of this length and with these counts is what is asked for.
+fn is_enough(asked: &Asked, count: usize, counts: &DrawnSink) -> bool
+    ensures enough { result ≡ (nat_le asked.now.bytes count && nat_le asked.now.entries counts.now.entries && nat_le asked.now.shapes counts.now.shapes) }
+    ensures entries { asked.now.entries < 2 ^ 64 }
+    ensures shapes { asked.now.shapes < 2 ^ 64 }
 {
-    let mut reader = Reader::new(alloc, find_budget(), DrawnSink::new());
-    let count = bytes.len().min(IDLE_LIMIT);
-    if let Some(index) = refused_index(&mut reader, &bytes[..count])? {
-        return Ok(Some(index));
-    }
-    if count == bytes.len() {
-        return Ok(Some(count));
-    }
-    if reader.sink().shapes == 0 {
-        return Ok(None);
-    }
-    match refused_index(&mut reader, &bytes[count..])? {
-        Some(index) => Ok(Some(index)),
-        None => Ok(Some(bytes.len())),
-    }
+    let entries = asked.entries;
+    let shapes = asked.shapes;
+    count >= asked.bytes && counts.entries >= entries && counts.shapes >= shapes
 }
 
-/// Whether none of the bytes is refused.
-pub(crate) fn is_read(alloc: Global, bytes: &[u8]) -> Result<bool, AllocError>
-    ensures { IfOk result (λ found. found ≡ is_read bytes.now) }
+/// Ends a reader that has read all bytes, and returns whether they are a page, if they are accepted.
+fn tried(asked: &Asked, count: usize, reader: Reader<DrawnSink>) -> Result<Option<bool>, AllocError>
+    requires { budget_of reader ≡ find_budget }
+    ensures { IfOk result (λ found. (s : DrawnSink) (p : List ℕ) → s ≡ nothing_drawn → HasRead reader s p → length p ≡ count → IsTried asked.now p found) }
 {
-    let mut reader = Reader::new(alloc, find_budget(), DrawnSink::new());
-    match refused_index(&mut reader, bytes)? {
-        Some(_) => Ok(false),
-        None => Ok(true),
-    }
-}
-
-/// Returns the sink with the counts of an accepted stream.
-fn accepted_counts(alloc: Global, bytes: &[u8]) -> Result<Option<DrawnSink>, AllocError>
-    ensures { IfOk result (λ found. CountsAccepted bytes.now found) }
-{
-    match read_stream(alloc, find_budget(), bytes, DrawnSink::new()) {
-        Ok(sink) => Ok(Some(sink)),
-        Err(refusal) => match refusal.fault {
+    match reader.finish() {
+        Ok(counts) => Ok(Some(is_enough(asked, count, &counts))),
+        Err(stopped) => match stopped.refusal.fault {
             Fault::Memory | Fault::Sink => Err(AllocError),
             _ => Ok(None),
         },
     }
 }
 
+/// Returns how far the bytes are read.
+pub(crate) fn extent_of(alloc: Global, asked: &Asked, bytes: &[u8]) -> Result<Extent, AllocError>
+    ensures { IfOk result (λ found. IsExtent asked.now bytes.now found) }
+{
+    let mut reader = Reader::new(alloc, find_budget(), DrawnSink::new());
+    let count = bytes.len().min(IDLE_LIMIT);
+    if let Some(index) = refused_index(&mut reader, &bytes[..count])? {
+        return Ok(Extent::Refused(index));
+    }
+    if count == bytes.len() {
+        let found = tried(asked, bytes.len(), reader)?;
+        return Ok(Extent::Whole(found));
+    }
+    if reader.sink().shapes == 0 {
+        return Ok(Extent::Idle);
+    }
+    if let Some(index) = refused_index(&mut reader, &bytes[count..])? {
+        return Ok(Extent::Refused(index));
+    }
+    let found = tried(asked, bytes.len(), reader)?;
+    Ok(Extent::Whole(found))
+}
+
+/// Whether so many of the bytes are read, and they or the further ones draw a shape.
+#[tactic(auto, unfolding(crate::specs::Readings::reads_and_draws))]
+pub(crate) fn reads_and_draws(alloc: Global, bytes: &[u8], least: usize) -> Result<bool, AllocError>
+    requires { least ≤ length bytes.now }
+    ensures { IfOk result (λ found. found ≡ reads_and_draws bytes.now least) }
+{
+    let mut reader = Reader::new(alloc, find_budget(), DrawnSink::new());
+    if let Some(_) = refused_index(&mut reader, &bytes[..least])? {
+        return Ok(false);
+    }
+    if reader.sink().shapes > 0 {
+        return Ok(true);
+    }
+    refused_index(&mut reader, &bytes[least..])?;
+    Ok(reader.sink().shapes > 0)
+}
+
+/// Returns whether the bytes are a page, if they are accepted.
+pub(crate) fn try_page(
+    alloc: Global,
+    asked: &Asked,
+    bytes: &[u8],
+) -> Result<Option<bool>, AllocError>
+    ensures { IfOk result (λ found. IsTried asked.now bytes.now found) }
+{
+    let mut reader = Reader::new(alloc, find_budget(), DrawnSink::new());
+    refused_index(&mut reader, bytes)?;
+    tried(asked, bytes.len(), reader)
+}
+
 /// Whether the bytes are an accepted stream.
-pub(crate) fn is_accepted(alloc: Global, bytes: &[u8]) -> Result<bool, AllocError>
+pub(crate) fn is_accepted(alloc: Global, asked: &Asked, bytes: &[u8]) -> Result<bool, AllocError>
     ensures { IfOk result (λ found. found ≡ is_accepted bytes.now) }
 {
-    match accepted_counts(alloc, bytes)? {
+    match try_page(alloc, asked, bytes)? {
         Some(_) => Ok(true),
         None => Ok(false),
     }
 }
 
 /// Whether the bytes are a page.
-#[tactic(auto, unfolding(crate::specs::Readings::is_page))]
 pub(crate) fn is_page(alloc: Global, asked: &Asked, bytes: &[u8]) -> Result<bool, AllocError>
     ensures { IfOk result (λ found. found ≡ is_page asked.now bytes.now) }
 {
-    if bytes.len() < asked.bytes {
-        return Ok(false);
-    }
-    match accepted_counts(alloc, bytes)? {
-        Some(counts) => Ok(counts.entries >= asked.entries && counts.shapes >= asked.shapes),
+    match try_page(alloc, asked, bytes)? {
+        Some(found) => Ok(found),
         None => Ok(false),
     }
 }

@@ -1,10 +1,11 @@
 //! What is decided about a beginning.
 ghost use Rattle.std.specs.Prelude.{◌≡◌, ◌≤◌, IfOk, length};
+ghost use Rattle.nap_find.specs.Readings.{IsTried};
 ghost use Rattle.nap_find.specs.Verdicts.{IsWithinBytes, lacks_bytes, verdict, verdict_at};
 
 use crate::end::page_end_of;
 use crate::find::Asked;
-use crate::reading::{IDLE_LIMIT, reach_unless_idle};
+use crate::reading::{Extent, IDLE_LIMIT, extent_of};
 use std::alloc::{AllocError, Global};
 
 /// What is decided about a beginning.
@@ -49,6 +50,28 @@ fn lacks_bytes(more: bool, count: usize, least: usize) -> bool
     !more && count < least
 }
 
+/// Returns the verdict about bytes that are all read.
+fn verdict_whole(
+    alloc: Global,
+    asked: &Asked,
+    more: bool,
+    bytes: &[u8],
+    tried: Option<bool>,
+) -> Result<Verdict, AllocError>
+    requires { IsTried asked.now bytes.now tried }
+    ensures verdict { IfOk result (λ found. found ≡ verdict_at asked.now more bytes.now (length bytes.now)) }
+    ensures within { IfOk result (λ found. IsWithinBytes (length bytes.now) found) }
+{
+    if more {
+        return Ok(Verdict::Waits);
+    }
+    match tried {
+        Some(true) => Ok(Verdict::Page(bytes.len())),
+        Some(false) => Ok(Verdict::None(bytes.len())),
+        None => verdict_at(alloc, asked, more, bytes, bytes.len()),
+    }
+}
+
 /// Returns the verdict about the bytes from a beginning on.
 #[tactic(auto, unfolding(crate::specs::Verdicts::verdict))]
 pub(crate) fn verdict_on(
@@ -63,8 +86,9 @@ pub(crate) fn verdict_on(
     if lacks_bytes(more, bytes.len(), asked.bytes) {
         return Ok(Verdict::None(0));
     }
-    match reach_unless_idle(alloc, bytes)? {
-        Some(reach) => verdict_at(alloc, asked, more, bytes, reach),
-        None => Ok(Verdict::None(IDLE_LIMIT)),
+    match extent_of(alloc, asked, bytes)? {
+        Extent::Idle => Ok(Verdict::None(IDLE_LIMIT)),
+        Extent::Refused(reach) => verdict_at(alloc, asked, more, bytes, reach),
+        Extent::Whole(tried) => verdict_whole(alloc, asked, more, bytes, tried),
     }
 }

@@ -27,3 +27,12 @@ returns-clause-passed c =
     c.in_ok-feed.ensures.finding ∙ ap (λ (a : Asked). find_on a (finding_of c.new-finder.result c.new-found.result) c.args.bytes.now) c.new-finder.ensures.asked
     ∙ ap (λ (g : Finding). find_on c.args.asked g c.args.bytes.now) none in
     c.in_ok-finish.ensures.passed ∙ ap (λ (a : Asked). (find_ended a f).passed) asked ∙ ap (λ (g : Finding). (find_ended c.args.asked g).passed) known
+
+pub returns-clause-open : goal.returns-clause-open
+returns-clause-open c =
+    let f = finding_of c.feed.new.self c.feed.new.found in
+    let none = c.new-finder.ensures.finding c.new-found.result c.new-found.ensures.finds c.new-found.ensures.passed in
+    let known : f ≡ find_on c.args.asked nothing_found c.args.bytes.now =
+    c.in_ok-feed.ensures.finding ∙ ap (λ (a : Asked). find_on a (finding_of c.new-finder.result c.new-found.result) c.args.bytes.now) c.new-finder.ensures.asked
+    ∙ ap (λ (g : Finding). find_on c.args.asked g c.args.bytes.now) none in
+    c.open-open.ensures ∙ ap (λ (g : Finding). g.place) known

@@ -2,8 +2,8 @@ use Rattle.std.proofs.Common.{ap, arith, suc, sym, ℕ, ◌+◌, ◌-◌, ◌∙
 use Rattle.nap_find.specs.Beginnings.{begins}
 use Rattle.nap_find.specs.Searching.{last_few}
 use Rattle.nap_find.proofs.SearchingLemmas.{last_few-end, last_few-hit, last_few-miss, last_few-stop}
-use Rattle.nap_find.proofs.beginning.retry_from.Goals as goal
-use Rattle.nap_find.proofs.beginning.retry_from.Goals.{else-begins, then-begins+else-left-eq0}
+use Rattle.nap_find.proofs.beginning.last_beginnings.Goals as goal
+use Rattle.nap_find.proofs.beginning.last_beginnings.Goals.{else-begins, then-begins+else-left-eq0}
 
 pub loop-count-preserved : goal.loop-count-preserved
 loop-count-preserved c =
