@@ -1,11 +1,11 @@
-use Rattle.std.proofs.Common.{Bool, List, None, Option, Some, ap, arith, false, if◌then◌else◌, length, nat_le, nat_lt, not, refl, subst, suc, sym, take, true, zero, ℕ, ◌&&◌, ◌+◌, ◌-◌, ◌/◌, ◌<◌, ◌∙◌, ◌≡◌, ◌≤◌}
+use Rattle.std.proofs.Common.{Bool, List, None, Option, Some, ap, arith, false, if◌then◌else◌, length, nat_le, nat_lt, not, refl, subst, suc, sym, take, true, zero, ℕ, ◌&&◌, ◌+◌, ◌-◌, ◌<◌, ◌∙◌, ◌≡◌, ◌≤◌}
 use Rattle.std.proofs.lemmas.Bool.{and_parts, le-ltb, leb-true}
 use Rattle.std.proofs.lemmas.List.{take_all}
 use Rattle.nap_reader.specs.Stream.{means}
 use Rattle.nap_find.specs.Beginnings.{begins, begins_anew, goes_on}
-use Rattle.nap_find.specs.Ends.{bytes_from, either, end_before, end_by, end_in_run, end_tries, halvings, is_code_byte, is_next, last_code, next_anew, next_other, next_page, others_from, own_end, page_end_of, retry_from}
+use Rattle.nap_find.specs.Ends.{bytes_from, either, end_before, end_by, end_tries, is_code_byte, is_next, last_code, next_anew, next_other, next_page, others_from, own_end, page_end_of, retry_from}
 use Rattle.nap_find.specs.Readings.{accepts, draws, find_budget, is_accepted, is_page, reads_and_draws}
-use Rattle.nap_find.specs.Searching.{first_down, first_from, greatest, halved}
+use Rattle.nap_find.specs.Searching.{first_down, first_from, greatest}
 use Rattle.nap_find.specs.Verdicts.{verdict_at, verdict_by_end}
 use Rattle.nap_find.specs.declared.{find.Asked.Asked, verdict.Verdict.Verdict}
 use Rattle.nap_find.proofs.SearchingLemmas.{first_down-hit, if_false}
@@ -46,19 +46,6 @@ either_is : (P : ℕ → Type 0) (a b : Option ℕ) → ((x : ℕ) → a ≡ Som
 either_is P None b left right e is = right e is
 either_is P (Some n) b left right e is = subst P (some_same n e is) (left n refl)
 
-halved_within : (f : ℕ → Bool) (low high n most : ℕ) → low ≤ most → high ≤ most → halved f low high n ≤ most
-unfolding halved
-halved_within f low high zero most a b = a
-halved_within f low high (suc n) most a b =
-    let mid : (low + high) / 2 ≤ most = omega arith in
-    elim (nat_le high (low + 1)) as (λ t. (if t then low else (if f ((low + high) / 2) then halved f ((low + high) / 2) high n else halved f low ((low + high) / 2) n)) ≤ most) [
-      | true ↦ a
-      | false ↦ elim (f ((low + high) / 2)) as (λ t. (if t then halved f ((low + high) / 2) high n else halved f low ((low + high) / 2) n) ≤ most) [
-        | true ↦ halved_within f ((low + high) / 2) high n most mid b
-        | false ↦ halved_within f low ((low + high) / 2) n most a mid
-      ]
-    ]
-
 pub greatest_within : (f : ℕ → Bool) (n : ℕ) → greatest f n ≤ n
 unfolding greatest
 greatest_within f zero = omega arith
@@ -90,18 +77,12 @@ module _ (asked : Asked) (p : List ℕ) where
       parts.1
 
   module _ (r : ℕ) (few : r ≤ length p) where
-    run_within : (o : Option ℕ) → ((y : ℕ) → o ≡ Some y → y ≤ length p) → (x : ℕ) → end_in_run p r o ≡ Some x → x ≤ length p
-    run_within None within x is = cc
-    run_within (Some y) within x is =
-        subst (λ (k : ℕ). k ≤ length p) (some_same (halved (accepts p) y r halvings) x is) (halved_within (accepts p) y r halvings (length p) (within y refl) few)
-
     last_within : last_code p r ≤ length p
     last_within = let h : last_code p r ≤ r - 1 = greatest_within (is_code_byte p) (r - 1) in omega arith
 
     own_within : (x : ℕ) → own_end p r ≡ Some x → x ≤ length p
     own_within x is =
-        either_is (λ (k : ℕ). k ≤ length p) (end_before p r) (end_in_run p r (end_before p (last_code p r))) (before_within r few)
-        (run_within (end_before p (last_code p r)) (before_within (last_code p r) last_within)) x is
+        either_is (λ (k : ℕ). k ≤ length p) (end_before p r) (end_before p (last_code p r)) (before_within r few) (before_within (last_code p r) last_within) x is
 
     anew_is : (e : ℕ) → next_anew asked p r ≡ Some e → IsEnd asked p e
     anew_is e is =
@@ -143,8 +124,8 @@ module _ (asked : Asked) (p : List ℕ) (accepted : is_accepted p ≡ true) wher
 
   whole_own : own_end p (length p) ≡ Some (length p)
   whole_own =
-      ap (λ (o : Option ℕ). either o (end_in_run p (length p) (end_before p (last_code p (length p)))))
-      (first_down-hit (accepts p) (length p) end_tries 15 refl (ap is_accepted all ∙ accepted))
+      ap (λ (o : Option ℕ). either o (end_before p (last_code p (length p))))
+      (first_down-hit (accepts p) (length p) end_tries 31 refl (ap is_accepted all ∙ accepted))
 
   none_next : next_page asked p (length p) ≡ None
   none_next =

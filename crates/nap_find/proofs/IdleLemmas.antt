@@ -107,8 +107,6 @@ draws_some s t q none drawn =
       | inr empty ↦ le-ltb 0 (capped_sum 0 n) (omega arith) ∙ sym (le-ltb 0 n empty)
     ]
 
--- Whether bytes are read so far, and draw a shape.
-
 pub unread_draws : (p : List ℕ) (least : ℕ) → reads p least ≡ false → false ≡ reads_and_draws p least
 unfolding reads_and_draws
 unread_draws p least unread = rw unread refl

@@ -5,7 +5,7 @@ use Rattle.nap_reader.specs.Breaking.{cause_of}
 use Rattle.nap_reader.specs.Stream.{Outcome, begun, means}
 use Rattle.nap_reader.specs.declared.fault.{Fault.Fault, Refusal.Refusal}
 use Rattle.nap_draw.specs.Draws.{stream}
-use Rattle.nap_find.specs.Readings.{IsRefusedAt, accepts, draws, find_budget, is_accepted, is_page, is_read, reach, reads}
+use Rattle.nap_find.specs.Readings.{IsRefusedAt, draws, find_budget, is_accepted, is_page, is_read, reach, reads}
 use Rattle.nap_find.specs.declared.find.Asked.{Asked}
 use Rattle.nap_find.proofs.SearchingLemmas.{greatest-is}
 
@@ -58,10 +58,6 @@ pub own_cause : (f : Fault) → f ≢ Fault.Memory → f ≢ Fault.Sink → caus
 own_cause Fault.Memory other own = absurd (other refl)
 own_cause Fault.Sink other own = absurd (own refl)
 own_cause _ other own = refl
-
--- what a reading of a prefix tells
-pub accepts_at : (xs : List ℕ) (n : ℕ) (b v : Bool) → b ≡ is_accepted (take n xs) → b ≡ v → accepts xs n ≡ v
-accepts_at xs n b v is said = sym is ∙ said
 
 -- what is refused is no page
 pub refused_no_page : (asked : Asked) (p : List ℕ) → is_accepted p ≡ false → is_page asked p ≡ false

@@ -1,7 +1,7 @@
-use Rattle.std.proofs.Common.{Bool, None, Some, ap, arith, false, if◌then◌else◌, inl, inr, nat_le, refl, subst, suc, sym, true, zero, ℕ, ◌+◌, ◌-◌, ◌/◌, ◌<◌, ◌==◌, ◌∙◌, ◌≡◌, ◌≤◌}
+use Rattle.std.proofs.Common.{Bool, None, Some, ap, arith, false, if◌then◌else◌, inl, inr, refl, subst, suc, sym, true, zero, ℕ, ◌+◌, ◌-◌, ◌<◌, ◌==◌, ◌∙◌, ◌≡◌, ◌≤◌}
 use Rattle.std.proofs.Math.Nat.{zero-add}
-use Rattle.std.proofs.lemmas.Bool.{cases_lt, le-leb, lt-leb, ne_eqb}
-use Rattle.nap_find.specs.Searching.{count_from, first_down, first_from, greatest, halved, last_few}
+use Rattle.std.proofs.lemmas.Bool.{cases_lt, ne_eqb}
+use Rattle.nap_find.specs.Searching.{count_from, first_down, first_from, greatest, last_few}
 
 -- Steps of searches, as loops take them.
 
@@ -122,29 +122,3 @@ module _ (passes : ℕ → Bool) where
         | true ↦ elim (k == 0) as (λ b. (if b then at + suc n else last_few passes (k - 1) at n) ≤ at + suc n) [ true ↦ omega arith | false ↦ omega (arith, i) ]
         | false ↦ omega (arith, h)
       ]
-
-  pub halved-end : (low high n : ℕ) → n ≡ 0 → halved passes low high n ≡ low
-  unfolding halved
-  halved-end low high n is = rw is refl
-
-  pub halved-close : (low high n : ℕ) → high ≤ low + 1 → halved passes low high n ≡ low
-  unfolding halved
-  halved-close low high zero close = refl
-  halved-close low high (suc n) close =
-      if_true (nat_le high (low + 1)) low (if passes ((low + high) / 2) then halved passes ((low + high) / 2) high n else halved passes low ((low + high) / 2) n) (le-leb high (low + 1) close)
-
-  halved-next : (low high n m : ℕ) → n ≡ suc m → low + 1 < high →
-      halved passes low high n ≡ (if passes ((low + high) / 2) then halved passes ((low + high) / 2) high m else halved passes low ((low + high) / 2) m)
-  unfolding halved
-  halved-next low high n m is far =
-      rw is (if_false (nat_le high (low + 1)) low (if passes ((low + high) / 2) then halved passes ((low + high) / 2) high m else halved passes low ((low + high) / 2) m) (lt-leb high (low + 1) far))
-
-  pub halved-up : (low high middle n m : ℕ) → n ≡ suc m → low + 1 < high → middle ≡ (low + high) / 2 → passes middle ≡ true → halved passes low high n ≡ halved passes middle high m
-  halved-up low high middle n m is far half hit =
-      halved-next low high n m is far
-      ∙ rw (← half) (if_true (passes middle) (halved passes middle high m) (halved passes low middle m) hit)
-
-  pub halved-down : (low high middle n m : ℕ) → n ≡ suc m → low + 1 < high → middle ≡ (low + high) / 2 → passes middle ≡ false → halved passes low high n ≡ halved passes low middle m
-  halved-down low high middle n m is far half miss =
-      halved-next low high n m is far
-      ∙ rw (← half) (if_false (passes middle) (halved passes middle high m) (halved passes low middle m) miss)

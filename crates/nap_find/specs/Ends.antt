@@ -1,7 +1,7 @@
 use Rattle.std.specs.Prelude.{Bool, List, None, Option, Some, drop, get_or, if◌then◌else◌, length, min, nat_lt, not, take, ℕ, ◌&&◌, ◌+◌, ◌-◌, ◌≡◌, ◌≤◌}
 use Rattle.nap_find.specs.Beginnings.{begins, begins_anew, goes_on}
 use Rattle.nap_find.specs.Readings.{accepts, is_page, reads_and_draws}
-use Rattle.nap_find.specs.Searching.{first_down, first_from, greatest, halved, last_few}
+use Rattle.nap_find.specs.Searching.{first_down, first_from, greatest, last_few}
 use Rattle.nap_find.specs.declared.{end.End.End, find.Asked.Asked}
 
 -- Where a page ends, of bytes that begin with it. The first r bytes are read, and the next one is refused.
@@ -16,11 +16,7 @@ most_others = 7
 
 -- the number of ends that are tried, one before another
 abbrev pub end_tries : ℕ
-end_tries = 16
-
--- the number of times that a run is halved
-abbrev pub halvings : ℕ
-halvings = 20
+end_tries = 32
 
 -- the number of further bytes in which another page draws a shape
 abbrev pub bytes_ahead : ℕ
@@ -38,19 +34,14 @@ last_code p r = greatest (is_code_byte p) (r - 1)
 abbrev pub end_before : List ℕ → ℕ → Option ℕ
 end_before p e = first_down (accepts p) e end_tries
 
--- an accepted end at or after this one, in the run before r
-abbrev pub end_in_run : List ℕ → ℕ → Option ℕ → Option ℕ
-end_in_run p r None = None
-end_in_run p r (Some e) = Some (halved (accepts p) e r halvings)
-
 -- the first of two that is there
 abbrev pub either : Option ℕ → Option ℕ → Option ℕ
 either None other = other
 either (Some n) other = Some n
 
--- The end by the bytes that are read: the first accepted one before a refused byte; else in the run of the last opcode.
+-- The end by the bytes that are read: the first accepted one before a refused byte; else before the last code byte.
 abbrev pub own_end : List ℕ → ℕ → Option ℕ
-own_end p r = either (end_before p r) (end_in_run p r (end_before p (last_code p r)))
+own_end p r = either (end_before p r) (end_before p (last_code p r))
 
 -- the first of the last beginnings before r
 abbrev pub retry_from : List ℕ → ℕ → ℕ

@@ -3,7 +3,7 @@ use Rattle.nap_list.specs.declared.entry.Entry.{Entry}
 use Rattle.nap_reader.specs.Stream.{begun, means}
 use Rattle.nap_find.specs.Searching.{greatest}
 use Rattle.nap_list.specs.State.{start}
-use Rattle.nap_find.specs.Shapes.{CountsDrawn, shapes_in}
+use Rattle.nap_find.specs.Shapes.{shapes_in}
 use Rattle.nap_find.specs.declared.drawn_sink.DrawnSink.{DrawnSink}
 use Rattle.nap_find.specs.declared.{find.Asked.Asked, reading.Extent.Extent}
 
@@ -59,11 +59,6 @@ accepts p k = is_accepted (take k p)
 -- a sink that has counted nothing
 abbrev pub nothing_drawn : DrawnSink
 nothing_drawn = record { entries = 0; shapes = 0; state = record { state = start } }
-
--- the bytes are accepted, and this sink has counted their entries; or they are refused
-abbrev pub CountsAccepted : List ℕ → Option DrawnSink → Type 0
-CountsAccepted p None = is_accepted p ≡ false
-CountsAccepted p (Some t) = (is_accepted p ≡ true) × CountsDrawn nothing_drawn (means find_budget p).entries t
 
 -- whether a list has as many entries and shapes as are asked for
 abbrev pub draws : Asked → List Entry → Bool

@@ -1,4 +1,4 @@
-use Rattle.std.specs.Prelude.{Bool, None, Option, Some, if◌then◌else◌, nat_le, suc, zero, ℕ, ◌+◌, ◌-◌, ◌/◌, ◌==◌}
+use Rattle.std.specs.Prelude.{Bool, None, Option, Some, if◌then◌else◌, suc, zero, ℕ, ◌+◌, ◌-◌, ◌==◌}
 
 -- Searches for numbers that pass a test.
 
@@ -27,10 +27,3 @@ unfoldable pub last_few : (ℕ → Bool) → ℕ → ℕ → ℕ → ℕ
 last_few passes k at zero = at
 last_few passes k at (suc n) =
     if passes (at + n) then (if k == 0 then at + suc n else last_few passes (k - 1) at n) else last_few passes k at n
-
--- the number that passes, found by halving the way from one that passes to one that doesn't, at most n times
-unfoldable pub halved : (ℕ → Bool) → ℕ → ℕ → ℕ → ℕ
-halved passes low high zero = low
-halved passes low high (suc n) =
-    if nat_le high (low + 1) then low
-    else (if passes ((low + high) / 2) then halved passes ((low + high) / 2) high n else halved passes low ((low + high) / 2) n)

@@ -1,19 +1,14 @@
 //! Where a page ends.
 ghost use Rattle.std.specs.Prelude.{◌≡◌, ◌≤◌, IfOk, IfSome, length};
-ghost use Rattle.nap_find.specs.Ends.{IsEndFound, end_before, halvings, last_code, own_end, page_end_of};
-ghost use Rattle.nap_find.specs.Readings.{accepts};
-ghost use Rattle.nap_find.specs.Searching.{halved};
+ghost use Rattle.nap_find.specs.Ends.{IsEndFound, end_before, last_code, own_end, page_end_of};
 
 use crate::find::Asked;
 use crate::next::next_page;
-use crate::reading::{is_accepted, is_page, try_page};
+use crate::reading::try_page;
 use std::alloc::{AllocError, Global};
 
 /// The number of ends that are tried, one before another.
-const END_TRIES: usize = 16;
-
-/// The number of times that a run is halved.
-const HALVINGS: u32 = 20;
+const END_TRIES: usize = 32;
 
 /// An accepted end.
 #[derive(Clone, Copy, Drop)]
@@ -59,36 +54,6 @@ fn end_before(
     Ok(None)
 }
 
-/// Returns the accepted end that halving finds between an accepted one and one that isn't.
-fn halved(
-    alloc: Global,
-    asked: &Asked,
-    bytes: &[u8],
-    from: usize,
-    to: usize,
-) -> Result<usize, AllocError>
-    requires from { from ≤ length bytes.now }
-    requires to { to ≤ length bytes.now }
-    ensures found { IfOk result (λ found. found ≡ halved (accepts bytes.now) from to halvings) }
-    ensures within { IfOk result (λ e. e ≤ length bytes.now) }
-{
-    let mut low = from;
-    let mut high = to;
-    for made in 0..HALVINGS {
-        if high <= low + 1 {
-            return Ok(low);
-        }
-        let middle = (low + high) / 2;
-        let accepted = is_accepted(alloc, asked, &bytes[..middle])?;
-        if accepted {
-            low = middle;
-        } else {
-            high = middle;
-        }
-    }
-    Ok(low)
-}
-
 /// Returns the end by the bytes that are read.
 fn own_end(
     alloc: Global,
@@ -99,18 +64,9 @@ fn own_end(
     requires { reach ≤ length bytes.now }
     ensures { IfOk result (λ found. IsEndFound asked.now bytes.now (own_end bytes.now reach) found) }
 {
-    let last = end_before(alloc, asked, bytes, reach)?;
-    if let Some(end) = last {
-        return Ok(Some(end));
-    }
-    let before = end_before(alloc, asked, bytes, last_code(bytes, reach))?;
-    match before {
-        Some(low) => {
-            let at = halved(alloc, asked, bytes, low.at, reach)?;
-            let is_page = is_page(alloc, asked, &bytes[..at])?;
-            Ok(Some(End { at, is_page }))
-        }
-        None => Ok(None),
+    match end_before(alloc, asked, bytes, reach)? {
+        Some(end) => Ok(Some(end)),
+        None => end_before(alloc, asked, bytes, last_code(bytes, reach)),
     }
 }
 

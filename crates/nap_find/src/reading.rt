@@ -2,7 +2,7 @@
 ghost use Rattle.std.specs.Prelude.{◌≡◌, ◌+◌, ◌<◌, ◌≤◌, ◌^◌, ◌++◌, ◌&&◌, nat_le, ℕ, List, [], None, Some, IfOk, IsTrue, IfSome, MatchOption, if◌then◌else◌, length, true, false};
 ghost use Rattle.nap_reader.specs.ReaderAnswers.{HasRead, budget_of, fed_of, refusal_of, sink_of};
 ghost use Rattle.nap_reader.specs.Stream.{begun};
-ghost use Rattle.nap_find.specs.Readings.{CountsAccepted, IsExtent, IsReadTo, IsTried, find_budget, idle_limit, is_accepted, is_idle, is_page, nothing_drawn, reach, reads_and_draws};
+ghost use Rattle.nap_find.specs.Readings.{IsExtent, IsReadTo, IsTried, find_budget, idle_limit, is_idle, is_page, nothing_drawn, reach, reads_and_draws};
 ghost use Rattle.nap_find.specs.Shapes.{CountsDrawn};
 
 use crate::drawn_sink::DrawnSink;
@@ -134,16 +134,6 @@ pub(crate) fn try_page(
     let mut reader = Reader::new(alloc, find_budget(), DrawnSink::new());
     refused_index(&mut reader, bytes)?;
     tried(asked, bytes.len(), reader)
-}
-
-/// Whether the bytes are an accepted stream.
-pub(crate) fn is_accepted(alloc: Global, asked: &Asked, bytes: &[u8]) -> Result<bool, AllocError>
-    ensures { IfOk result (λ found. found ≡ is_accepted bytes.now) }
-{
-    match try_page(alloc, asked, bytes)? {
-        Some(_) => Ok(true),
-        None => Ok(false),
-    }
 }
 
 /// Whether the bytes are a page.
