@@ -3,7 +3,7 @@ use Rattle.std.proofs.lemmas.Bool.{and_parts, le-ltb, leb-true}
 use Rattle.std.proofs.lemmas.List.{take_all}
 use Rattle.nap_reader.specs.Stream.{means}
 use Rattle.nap_find.specs.Beginnings.{begins, begins_anew, goes_on}
-use Rattle.nap_find.specs.Ends.{bytes_from, either, end_before, end_by, end_tries, is_code_byte, is_next, last_code, next_anew, next_other, next_page, others_from, own_end, page_end_of, retry_from}
+use Rattle.nap_find.specs.Ends.{bytes_of_next, either, end_before, end_by, end_tries, is_code_byte, is_next, last_code, next_anew, next_other, next_page, others_from, own_end, page_end_of, retry_from}
 use Rattle.nap_find.specs.Readings.{accepts, draws, find_budget, is_accepted, is_page, reads_and_draws}
 use Rattle.nap_find.specs.Searching.{first_down, first_from, greatest}
 use Rattle.nap_find.specs.Verdicts.{verdict_at, verdict_by_end}
@@ -73,7 +73,7 @@ module _ (asked : Asked) (p : List ℕ) where
   -- another page begins after a page
   next_is : (r at : ℕ) → is_next asked p r at ≡ true → is_page asked (take at p) ≡ true
   next_is r at h =
-      let parts = and_parts (begins p at && not (goes_on p at) && reads_and_draws (bytes_from asked p r at) (r + asked.bytes - at)) (is_page asked (take at p)) h in
+      let parts = and_parts (begins p at && not (goes_on p at) && reads_and_draws (bytes_of_next asked p r at) (r + asked.bytes - at)) (is_page asked (take at p)) h in
       parts.1
 
   module _ (r : ℕ) (few : r ≤ length p) where

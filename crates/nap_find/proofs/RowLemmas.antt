@@ -2,7 +2,7 @@ use Rattle.std.proofs.Common.{Bool, List, [], ap, append_assoc, arith, drop, fal
 use Rattle.std.proofs.lemmas.Bool.{and_parts, eq-eqb, ne_eqb}
 use Rattle.std.proofs.lemmas.List.{drop-drop, drop_all, drop_more, take_rest}
 use Rattle.nap_find.specs.Beginnings.{is_opener}
-use Rattle.nap_find.specs.Rows.{Finding, block_limit, can_fill, end_row, find_on, go_on, is_plain, lengthened, makes_fill, same_with, step, step_in_row, step_outside, with_byte}
+use Rattle.nap_find.specs.Rows.{Finding, block_limit, can_fill, end_row, find_on, go_on, is_row_byte, lengthened, makes_fill, same_with, step, step_in_row, step_outside, with_byte}
 use Rattle.nap_find.specs.Verdicts.{block_of}
 use Rattle.nap_find.specs.declared.find.Asked.{Asked}
 use Rattle.nap_find.proofs.SearchingLemmas.{if_false, if_true}
@@ -56,7 +56,7 @@ no_fill false true s n is = cc
 no_fill false false true n is = cc
 no_fill false false false n is = refl
 
-plain_parts : (b : ℕ) → is_plain b ≡ true → (nat_lt b 128 ≡ true) × (can_fill b ≡ false)
+plain_parts : (b : ℕ) → is_row_byte b ≡ true → (nat_lt b 128 ≡ true) × (can_fill b ≡ false)
 plain_parts b is =
     let parts = and_parts (nat_lt b 128) (not (can_fill b)) is in
     (parts.0, not_true (can_fill b) parts.1)
@@ -65,7 +65,7 @@ plain_parts b is =
     not_true true is = cc
     not_true false is = refl
 
-step_plain : (asked : Asked) (f : Finding) (b : ℕ) → 0 < length f.row → length f.row + 1 < block_limit → is_plain b ≡ true → step asked f b ≡ record f { row = f.row ++ b ∷ []; same = 0 }
+step_plain : (asked : Asked) (f : Finding) (b : ℕ) → 0 < length f.row → length f.row + 1 < block_limit → is_row_byte b ≡ true → step asked f b ≡ record f { row = f.row ++ b ∷ []; same = 0 }
 unfolding step
 step_plain asked f b some few plain =
     let parts = plain_parts b plain in
@@ -80,7 +80,7 @@ step_plain asked f b some few plain =
     ∙ ap (λ (n : ℕ). record f { row = f.row ++ b ∷ []; same = n }) none
 
 pub plain_bytes : (asked : Asked) (f : Finding) (xs : List ℕ) (n : ℕ) → 0 < length f.row → length f.row + suc n < block_limit → suc n ≤ length xs →
-    ((k : ℕ) → k < suc n → is_plain (get_or xs k 0) ≡ true) → find_on asked (record f { row = f.row ++ take (suc n) xs; same = 0 }) (drop (suc n) xs) ≡ find_on asked f xs
+    ((k : ℕ) → k < suc n → is_row_byte (get_or xs k 0) ≡ true) → find_on asked (record f { row = f.row ++ take (suc n) xs; same = 0 }) (drop (suc n) xs) ≡ find_on asked f xs
 plain_bytes asked f [] n some few within plain = absurd (omega arith)
 plain_bytes asked f (b ∷ bs) zero some few within plain =
     sym (find_on_cons asked f b bs ∙ ap (λ (h : Finding). find_on asked h bs) (step_plain asked f b some (omega arith) (plain 0 (omega arith))))
@@ -93,7 +93,7 @@ plain_bytes asked f (b ∷ bs) (suc n) some few within plain =
 
 -- the row with the bytes, by their number
 pub plain_more : (asked : Asked) (f : Finding) (xs row : List ℕ) (n : ℕ) → row ≡ f.row ++ take n xs → 0 < length f.row → 0 < n → length f.row + n < block_limit → n ≤ length xs →
-    ((k : ℕ) → k < n → is_plain (get_or xs k 0) ≡ true) → find_on asked (record f { row = row; same = 0 }) (drop n xs) ≡ find_on asked f xs
+    ((k : ℕ) → k < n → is_row_byte (get_or xs k 0) ≡ true) → find_on asked (record f { row = row; same = 0 }) (drop n xs) ≡ find_on asked f xs
 plain_more asked f xs row zero is some any few within plain = absurd (omega arith)
 plain_more asked f xs row (suc n) is some any few within plain =
     ap (λ (r : List ℕ). find_on asked (record f { row = r; same = 0 }) (drop (suc n) xs)) is ∙ plain_bytes asked f xs n some few within plain

@@ -19,8 +19,8 @@ abbrev pub end_tries : ℕ
 end_tries = 32
 
 -- the number of further bytes in which another page draws a shape
-abbrev pub bytes_ahead : ℕ
-bytes_ahead = 1024
+abbrev pub draw_limit : ℕ
+draw_limit = 1024
 
 -- whether the byte at this index can be an opcode, and no operand
 abbrev pub is_code_byte : List ℕ → ℕ → Bool
@@ -52,14 +52,14 @@ abbrev pub others_from : List ℕ → ℕ → ℕ
 others_from p r = last_few (begins p) most_others 1 (r - 1)
 
 -- the bytes from an index on by which another page is known
-abbrev pub bytes_from : Asked → List ℕ → ℕ → ℕ → List ℕ
-bytes_from asked p r at = take (min (length p) (r + asked.bytes + bytes_ahead) - at) (drop at p)
+abbrev pub bytes_of_next : Asked → List ℕ → ℕ → ℕ → List ℕ
+bytes_of_next asked p r at = take (min (length p) (r + asked.bytes + draw_limit) - at) (drop at p)
 
 -- whether another page begins at this index: what is before it is a page; and what is after it draws a shape, and is
 -- read past r, by the least length of a page
 abbrev pub is_next : Asked → List ℕ → ℕ → ℕ → Bool
 is_next asked p r at =
-    begins p at && not (goes_on p at) && reads_and_draws (bytes_from asked p r at) (r + asked.bytes - at) && is_page asked (take at p)
+    begins p at && not (goes_on p at) && reads_and_draws (bytes_of_next asked p r at) (r + asked.bytes - at) && is_page asked (take at p)
 
 -- the last beginning anew at which another page begins
 abbrev pub next_anew : Asked → List ℕ → ℕ → Option ℕ

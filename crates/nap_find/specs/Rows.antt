@@ -45,8 +45,8 @@ abbrev pub can_fill : ℕ → Bool
 can_fill b = (b == 0x00) || (b == 0x1A) || (b == 0x20)
 
 -- whether a byte only makes a row longer
-abbrev pub is_plain : ℕ → Bool
-is_plain b = nat_lt b 128 && not (can_fill b)
+abbrev pub is_row_byte : ℕ → Bool
+is_row_byte b = nat_lt b 128 && not (can_fill b)
 
 -- the number of equal bytes at the end of a row that can be a fill, counted to 256, once this byte comes
 abbrev pub same_with : List ℕ → ℕ → ℕ → ℕ

@@ -1,7 +1,7 @@
 //! Finds in bytes that come in pieces.
 ghost use Rattle.std.specs.Prelude.{◌≡◌, ◌+◌, ◌<◌, ◌≤◌, ◌^◌, ◌-◌, [], IfOk, OnOk, OnErr, IsErr, length, drop, take, true, false, ◌==◌, get_or, ℕ};
 ghost use Rattle.nap_find.specs.Beginnings.{is_opener};
-ghost use Rattle.nap_find.specs.Rows.{block_limit, can_fill, finds_of, found_of, is_plain, makes_fill, open_of, same_with};
+ghost use Rattle.nap_find.specs.Rows.{block_limit, can_fill, finds_of, found_of, is_row_byte, makes_fill, open_of, same_with};
 
 use crate::beginning::is_opener;
 use crate::block::find_in_block;
@@ -45,21 +45,21 @@ fn can_fill(byte: u8) -> bool
 }
 
 /// Whether a byte only makes a row longer.
-fn is_plain(byte: u8) -> bool
-    ensures { result ≡ is_plain byte }
+fn is_row_byte(byte: u8) -> bool
+    ensures { result ≡ is_row_byte byte }
 {
     byte < 0x80 && !can_fill(byte)
 }
 
-/// Returns the number of bytes before the first one that isn't plain, or `most` if that is less.
+/// Returns the number of bytes before the first one that does more than make a row longer, or `most` if that is less.
 fn plain_count(piece: &[u8], most: usize) -> usize
     ensures within { result ≤ length piece.now }
     ensures most { result ≤ most }
-    ensures plain { (k : ℕ) → k < result → is_plain (get_or piece.now k 0) ≡ true }
+    ensures plain { (k : ℕ) → k < result → is_row_byte (get_or piece.now k 0) ≡ true }
 {
     let count = piece.len().min(most);
     for index in 0..count {
-        if !is_plain(piece[index]) {
+        if !is_row_byte(piece[index]) {
             return index;
         }
     }

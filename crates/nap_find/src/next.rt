@@ -9,7 +9,7 @@ use crate::reading::{is_page, reads_and_draws};
 use std::alloc::{AllocError, Global};
 
 /// The number of further bytes in which another page draws a shape.
-const BYTES_AHEAD: usize = 1_024;
+const DRAW_LIMIT: usize = 1_024;
 
 /// The number of other beginnings before a refused byte at which another page may begin.
 const MOST_OTHERS: usize = 7;
@@ -30,7 +30,7 @@ fn is_next(
         return Ok(false);
     }
     let goal = reach + asked.bytes;
-    let end = bytes.len().min(goal.saturating_add(BYTES_AHEAD));
+    let end = bytes.len().min(goal.saturating_add(DRAW_LIMIT));
     if !reads_and_draws(alloc, &bytes[at..end], goal - at)? {
         return Ok(false);
     }
