@@ -20,6 +20,7 @@ import importlib
 from typing import TYPE_CHECKING, List
 
 if TYPE_CHECKING:
+    from .answers import Find, Finds
     from .backends import Backend, Data
     from .dots import Raster, raster
     from .entry import (
@@ -27,6 +28,7 @@ if TYPE_CHECKING:
         Look, Map, MaskStart, Pen, Point, Poly, Position, Rect, Reset, TextMove, Texture, ToEol, Wait,
     )
     from .faults import Error, NeedsLibrary, NoAnswer, NoMemory, NotMade, Refused, Unavailable, WrongLibrary
+    from .finds import find, finds_in
     from .limits import MOST_BUDGET, USUAL_BUDGET
     from .pages import (
         Checker, Places, backend, canon, canon_form1, check, entries, is_plain, lines, make, places, svg, text,
@@ -37,21 +39,22 @@ if TYPE_CHECKING:
     from .version import __version__
 
 __all__ = [
-    "MOST_BUDGET", "ONE", "USUAL_BUDGET", "Arc", "Backend", "Bell", "Blink", "BlinkEnd", "BlinkMark", "Change",
-    "Char", "Checker", "Clear", "Colour", "Cure", "Cursor", "Data", "DefEnd", "Edit", "Entry", "Error", "Field",
-    "GlyphStart", "Line", "Look", "Map", "MaskStart", "NeedsLibrary", "NoAnswer", "NoMemory", "NotMade", "Pen",
+    "MOST_BUDGET", "ONE", "USUAL_BUDGET", "Arc", "Backend", "Bell", "Blink", "BlinkEnd", "BlinkMark", "Change", "Char",
+    "Checker", "Clear", "Colour", "Cure", "Cursor", "Data", "DefEnd", "Edit", "Entry", "Error", "Field", "Find",
+    "Finds", "GlyphStart", "Line", "Look", "Map", "MaskStart", "NeedsLibrary", "NoAnswer", "NoMemory", "NotMade", "Pen",
     "Places", "Point", "Poly", "Position", "Raster", "Rect", "Refused", "Reset", "TextMove", "Texture", "ToEol",
-    "Unavailable", "Wait", "WrongLibrary", "__version__", "backend", "canon", "canon_form1", "check", "entries",
-    "is_plain", "lines", "make", "places", "raster", "svg", "text", "treatments",
+    "Unavailable", "Wait", "WrongLibrary", "__version__", "backend", "canon", "canon_form1", "check", "entries", "find",
+    "finds_in", "is_plain", "lines", "make", "places", "raster", "svg", "text", "treatments",
 ]
 # Where the names stand. A module is imported once the first of them is asked for, as few programs need them all.
 _NAMES = {
-    "backends": ("Backend", "Data"), "dots": ("Raster", "raster"),
+    "answers": ("Find", "Finds"), "backends": ("Backend", "Data"), "dots": ("Raster", "raster"),
     "entry": (
         "ONE", "Arc", "Bell", "Blink", "BlinkEnd", "BlinkMark", "Char", "Clear", "Colour", "Cursor", "DefEnd", "Entry",
         "Field", "GlyphStart", "Line", "Look", "Map", "MaskStart", "Pen", "Point", "Poly", "Position", "Rect", "Reset",
         "TextMove", "Texture", "ToEol", "Wait"),
     "faults": ("Error", "NeedsLibrary", "NoAnswer", "NoMemory", "NotMade", "Refused", "Unavailable", "WrongLibrary"),
+    "finds": ("find", "finds_in"),
     "limits": ("MOST_BUDGET", "USUAL_BUDGET"),
     "pages": (
         "Checker", "Places", "backend", "canon", "canon_form1", "check", "entries", "is_plain", "lines", "make",

@@ -11,6 +11,9 @@ ACCEPTED = rb"accepted (0|[1-9][0-9]{0,17}) entries"
 REFUSED = rb"refused ([1-9][0-9]?) ([A-Za-z]+)(?: ([A-Z0-9-]+))? at (0|[1-9][0-9]{0,17})"
 WRONG_LINE = (rb"line ([1-9][0-9]{0,17}): (?:no line of a list, at column ([1-9][0-9]{0,17})|can't come here|"
               rb"the definition of line ([1-9][0-9]{0,17}) isn't ended)")
+FOUND = rb"found (0|[1-9][0-9]{0,17}) pages"
+FIND = rb"(0|[1-9][0-9]{0,17}) ([1-9][0-9]{0,17})"
+OPEN = rb"open (0|[1-9][0-9]{0,17}) passed (0|[1-9][0-9]{0,19})"
 NO_MEMORY = "the program had no memory for it"
 NONSENSE = "the program answered something that is no answer"
 # Refusals that say nothing of the page.
@@ -84,8 +87,25 @@ class WrongLine(NamedTuple):
         return f"line {self.number}: {self.reason}{behind}"
 
 
+class Find(NamedTuple):
+    """A page among other bytes: the offset of its first byte, and the offset after its last byte."""
+
+    begin: int
+    end: int
+
+
+class Finds(NamedTuple):
+    """The pages among some bytes, in order; the offset from which on bytes that follow may change them; and how many
+    beginnings were passed over."""
+
+    finds: List[Find]
+    open: int
+    passed: int
+
+
 Answer = Union[Accepted, Refusal, Unanswered]
 MakeAnswer = Union[Accepted, WrongLine, Unanswered]
+FindAnswer = Union[Finds, Unanswered]
 
 
 class HashedAnswer(NamedTuple):
@@ -148,6 +168,20 @@ def read_wrong_line(line: bytes) -> Optional[WrongLine]:
     return WrongLine(number, reason, *(None if each is None else int(each) for each in (found[2], found[3])))
 
 
+def read_finds(text: bytes, length: int) -> Finds:
+    """The finds that an answer states, for this number of bytes. Raises Nonsense."""
+    *lines, tail = text.split(b"\n")[:-1] or [b""]
+    matches = [re.fullmatch(FIND, line) for line in lines]
+    finds = [Find(int(match[1]), int(match[2])) for match in matches if match]
+    places = [place for find in finds for place in find]
+    match = re.fullmatch(OPEN, tail)
+    if match is None or not text.endswith(b"\n") or len(finds) != len(lines) or places != sorted(places):
+        raise Nonsense
+    if max([int(match[1]), *places[-1:]]) > length:
+        raise Nonsense
+    return Finds(finds, int(match[1]), int(match[2]))
+
+
 def with_body(call: str, answer: Answer, body: bytes) -> Answer:
     """The answer with the body that the call gives with it. Raises Nonsense for another body."""
     if isinstance(answer, Unanswered) or call == "check" or (isinstance(answer, Refusal) and call != "places"):
@@ -156,6 +190,8 @@ def with_body(call: str, answer: Answer, body: bytes) -> Answer:
         return answer
     if call in ("canon", "make"):
         fits = bool(body)
+    elif call == "find":
+        fits = isinstance(answer, Accepted) and body.count(b"\n") == answer.entries + 1
     else:
         fits = body.isascii() and (isinstance(answer, Refusal) or body.count(b"\n") == answer.entries)
     if not fits:
@@ -250,12 +286,24 @@ class AnswerParser:
         if self.most is not None and self._length > self.most:
             raise AnswerTooLong(self._length)
         page, line = self.pages[len(self.answers)], come[at:first]
-        self._answer = self._read_made(line, page) if self.call == "make" else read_line(line, len(page))
+        self._answer = self._read_answer(line, page)
         if self.most is None:
             self._hash = new_hash()
             if isinstance(self._answer, Accepted) != bool(self._length):
                 raise Nonsense
         return second + 1
+
+    def _read_answer(self, line: bytes, page: bytes) -> Answer:
+        """The answer that a line states about a page; its entries are finds if these were asked. Raises Nonsense."""
+        if self.call == "make":
+            return self._read_made(line, page)
+        if self.call != "find":
+            return read_line(line, len(page))
+        match = re.fullmatch(FOUND, line)
+        answer = Accepted(int(match[1])) if match else read_line(line, None)
+        if isinstance(answer, Refusal) or (isinstance(answer, Accepted) and not match):
+            raise Nonsense
+        return answer
 
     def _read_made(self, line: bytes, page: bytes) -> Answer:
         """The answer to `make`: that the lines are entries, or that one of them is wrong. Raises Nonsense."""

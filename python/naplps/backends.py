@@ -10,7 +10,9 @@ from contextlib import contextmanager
 from typing import Any, Callable, Iterator, List, NamedTuple, Optional, Protocol, Tuple, Union
 
 from . import faults
-from .answers import MEMORY, Accepted, Answer, Refusal, WrongLine
+from .answers import (
+    MEMORY, Accepted, Answer, Finds, NotAnswered, Refusal, Unanswered, WrongLine, read_finds,
+)
 from .client import Client, find, library
 from .faults import NoMemory, NoProgram, NotMade, Refused, Unavailable, WrongLibrary
 from .limits import MOST_PAGE, Limits
@@ -61,6 +63,10 @@ class Answerer(Protocol):
 
     def make(self, lines: bytes) -> bytes:
         """The page that lines make, each of which has its end. Raises NotMade, NoMemory, NoAnswer."""
+        ...
+
+    def find(self, data: Data, least: int) -> Finds:
+        """The pages among at most 16 MiB of bytes. Raises NoMemory, NoAnswer."""
         ...
 
     def begin(self, budget: int, lock: threading.Lock) -> Pieces:
@@ -136,8 +142,9 @@ class LibraryBackend:
         self._is_plain = self._function("is_plain", ctypes.c_bool, *PAGE)
         self._check = self._function("check", AnswerStruct, ctypes.c_uint32, *PAGE)
         self._texts = {name: self._function(name, AnswerStruct, ctypes.c_uint32, *PAGE, *ROOM) for name in TEXTS}
-        # (a library before 0.3 has none, and answers all else)
+        # (a library before 0.3 has no make, one before 0.5 no find; it answers all else)
         self._make: Optional[Callable[..., Any]] = None
+        self._find: Optional[Callable[..., Any]] = None
         self._begin = self._function("check_begin", AnswerStruct, BEGUN, ctypes.c_uint32)
         self._feed = self._function("check_feed", AnswerStruct, BEGUN, *PAGE)
         self._finish = self._function("check_finish", AnswerStruct, BEGUN)
@@ -155,12 +162,16 @@ class LibraryBackend:
 
     def answer(self, call: str, page: Data, budget: int) -> Reply:
         """What comes of a page. Raises NoMemory."""
-        lent, length = _lent(page)
         if call == "check":
-            answer: AnswerStruct = self._check(budget, lent, length)
+            answer: AnswerStruct = self._check(budget, *_lent(page))
             return self._reply(answer, answer.length, b"")
-        function, room, size = self._texts[call], _First(), FIRST
-        answer = function(budget, lent, length, room, size)
+        return self._text(self._texts[call], page, budget)
+
+    def _text(self, function: Callable[..., Any], page: Data, budget: int) -> Reply:
+        """The text that a function gives of a page. Raises NoMemory."""
+        lent, length = _lent(page)
+        room, size = _First(), FIRST
+        answer: AnswerStruct = function(budget, lent, length, room, size)
         while answer.status == SMALL_ROOM:
             size = answer.length
             room = self._room(size)
@@ -168,6 +179,16 @@ class LibraryBackend:
         if answer.length > size:
             raise self._wrong("its answer is longer than its room")
         return self._reply(answer, 0, ctypes.string_at(room, answer.length))
+
+    def find(self, data: Data, least: int) -> Finds:
+        """The pages among some bytes. Raises NoMemory."""
+        if self._find is None:
+            self._find = self._function("find", AnswerStruct, ctypes.c_uint32, *PAGE, *ROOM)
+        text = self._text(self._find, data, least).text
+        try:
+            return read_finds(text, memoryview(data).nbytes)
+        except NotAnswered:
+            raise self._wrong("its finds are none") from None
 
     def is_plain(self, page: Data) -> bool:
         """Whether a page is plain."""
@@ -286,6 +307,14 @@ class ProgramBackend:
             raise faults.NotMade(answer.number, answer.column, answer.reason)
         return _reply(answer).text
 
+    def find(self, data: Data, least: int) -> Finds:
+        """The pages among at most 16 MiB of bytes. Raises NoMemory, NoAnswer."""
+        with self._client() as client:
+            answer = client.find(bytes(data), least)
+        if isinstance(answer, Unanswered):
+            raise error_of(answer)
+        return answer
+
     @contextmanager
     def _client(self) -> Iterator[Client]:
         """A client that answers nobody else meanwhile."""
@@ -328,7 +357,12 @@ def _reply(answer: Answer) -> Reply:
         return Reply(answer.entries, answer.body)
     if isinstance(answer, Refusal):
         return Reply(0, answer.body, faults.Refused(answer.number, answer.name, answer.place))
-    raise faults.NoMemory(answer.reason) if answer.too_much else faults.NoAnswer(answer.reason)
+    raise error_of(answer)
+
+
+def error_of(answer: Unanswered) -> faults.Error:
+    """What is raised where the program gave no answer."""
+    return faults.NoMemory(answer.reason) if answer.too_much else faults.NoAnswer(answer.reason)
 
 
 class ProgramPieces:

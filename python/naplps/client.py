@@ -14,8 +14,8 @@ import time
 from typing import IO, Callable, Dict, List, NamedTuple, Optional, Protocol, Sequence, Tuple, Union
 
 from .answers import (
-    Accepted, Answer, AnswerParser, AnswerTooLong, HashedAnswer, MakeAnswer, Nonsense, NotAnswered, Refusal,
-    Unanswered, new_hash, read_line, read_wrong_line, with_body,
+    Accepted, Answer, AnswerParser, AnswerTooLong, FindAnswer, HashedAnswer, MakeAnswer, Nonsense, NotAnswered, Refusal,
+    Unanswered, new_hash, read_finds, read_line, read_wrong_line, with_body,
 )
 from .ending import ENDING
 from .faults import NoProgram
@@ -355,6 +355,16 @@ class Client:
         wrong = parser.wrong_line
         return wrong if wrong is not None and answer == Unanswered(wrong.line) else answer
 
+    def find(self, data: bytes, least: int) -> FindAnswer:
+        """The pages among at most 16 MiB of bytes, each of which has at least this number of entries."""
+        answer = self._answers(AnswerParser("find", (data,), self.limits.answer), least)[0].answer
+        assert not isinstance(answer, Refusal)
+        try:
+            return answer if isinstance(answer, Unanswered) else read_finds(answer.body, len(data))
+        except NotAnswered as nonsense:
+            self.close()
+            return nonsense.answer
+
     def ask_each(self, call: str, pages: Sequence[bytes]) -> List[Answer]:
         """The answers to a call on each of these pages, all of which are held. The requests are written ahead.
 
@@ -377,14 +387,14 @@ class Client:
             answers += self._answers(AnswerParser("canon", pages[len(answers):], None, self._go_on, keeps))
         return answers
 
-    def _answers(self, parser: AnswerParser) -> List[HashedAnswer]:
-        """The answers up to the first that lacks, and why that does."""
-        call = parser.call.encode("ascii")
+    def _answers(self, parser: AnswerParser, least: Optional[int] = None) -> List[HashedAnswer]:
+        """The answers up to the first that lacks, and why that does; `least` is in place of the budget."""
+        call, number = parser.call.encode("ascii"), self.budget if least is None else least
         try:
             if self.process is None:
                 self.process = ChildProcess([self.path, "batch"], self.limits)
                 self.started += 1
-            requests = b"".join(b"%b %d %d\n%b" % (call, self.budget, len(page), page) for page in parser.pages)
+            requests = b"".join(b"%b %d %d\n%b" % (call, number, len(page), page) for page in parser.pages)
             self.process.talk(requests, parser.take)
             return parser.answers
         except NotAnswered as failure:

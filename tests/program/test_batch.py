@@ -17,6 +17,8 @@ POINT_LINE = f"POINT 4194304,4194304 {START}"
 TWO_POINTS = bytes.fromhex("0e265240402652404026524040")
 OUTSIDE = bytes.fromhex("0e2652287f")
 MACRO = bytes.fromhex("1b40410e26520f1b451b2a7a1941")
+# A page of two entries and 6 bytes from 17 on, and one of three entries and 10 bytes from 24 on.
+TWO_PAGES = bytes(17) + b"\x0c" + POINT + b"\x80\x0c" + POINT + POINT[1:]
 
 CASES = [
     Case("check", USUAL, POINT, "accepted 1 entries"),
@@ -50,6 +52,16 @@ CASES = [
     Case("make", USUAL, b"BELL\nEND\n", "line 2: can't come here"),
     Case("make", USUAL, b"BELL\nGLYPH 41\nBELL\n", "line 3: the definition of line 2 isn't ended"),
     Case("make", USUAL, POINT, "line 1: no line of a list, at column 1"),
+    # The number is the least number of entries; a find has twice as many bytes.
+    Case("find", 1, TWO_PAGES, "found 2 pages", b"17 23\n24 34\nopen 24 passed 0\n"),
+    Case("find", 3, TWO_PAGES, "found 1 pages", b"24 34\nopen 24 passed 0\n"),
+    Case("find", 4, TWO_PAGES, "found 0 pages", b"open 24 passed 0\n"),
+    Case("find", MAX_BUDGET, TWO_PAGES, "found 0 pages", b"open 24 passed 0\n"),
+    # The row ends, and with it what more bytes may change.
+    Case("find", 1, TWO_PAGES + b"\x80", "found 2 pages", b"17 23\n24 34\nopen 35 passed 0\n"),
+    # Twenty beginnings before a byte that is refused: the first is tried, and then the last fifteen.
+    Case("find", 1, b"\x0c" * 20 + b"\x18", "found 0 pages", b"open 0 passed 4\n"),
+    Case("find", 0, b"", "found 0 pages", b"open 0 passed 0\n"),
     Case("check", USUAL, b"\x80", "refused 1 EighthBit at 0"),
     Case("check", USUAL, b"\n\n", "accepted 2 entries"),
 ]
@@ -62,7 +74,7 @@ WRONG = [
     b"check 0 -0\n", b"check 0x0 0\n", b"check  0\n", b"check 0 \n", b"check 67108865 0\n", b"check 0 16777217\n",
     b"check 99999999 0\n", b"check 000000000 0\n", b"check 0 000000000\n", b"check 4294967296 0\n",
     b"places 12345678 123456789", b"a line that is far too long for any request", b"\x00check 0 0\n", b"x",
-    b"places 67108864 16777216",
+    b"places 67108864 16777216", b"find 0\n", b"find  0\n", b"find 67108865 0\n", b"finds 0 0\n",
 ]
 Batch = Callable[..., Answer]
 

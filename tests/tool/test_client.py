@@ -6,7 +6,7 @@ import pytest
 
 from command import file
 from fake_programs import BATCH
-from naplps.answers import NONSENSE, Accepted, Nonsense, Refusal, Unanswered, read_line
+from naplps.answers import NONSENSE, Accepted, Find, Finds, Nonsense, Refusal, Unanswered, read_finds, read_line
 from naplps.client import Client
 from naplps.limits import MOST_PAGE, Limits
 from naplps_pages.source import read
@@ -27,6 +27,7 @@ def test_answers_of_the_program(program):
     assert program.ask("check", OUTSIDE) == Refusal(10, "Outside", None, 3)
     assert program.ask("places", OUTSIDE) == Refusal(10, "Outside", None, 3, b"3 " + POINT_LINE.encode() + b"\n")
     assert program.ask("check", b"\x18") == Refusal(6, "LeftOut", "CAN", 0)
+    assert program.find(bytes(9) + b"\x0c" + POINT, 1) == Finds([Find(9, 15)], 9, 0)
     assert program.started == 1
 
 
@@ -43,6 +44,32 @@ def test_the_budget_is_passed_on(naplps):
 def test_lines_that_are_no_answers(line):
     with pytest.raises(Nonsense):
         read_line(line, 5)
+
+
+@pytest.mark.parametrize("text", [
+    b"", b"1 2\n", b"open 3 passed 0", b"open 10 passed 0\n", b"open 3 passed 0\n1 2\n", b"2 1\nopen 3 passed 0\n",
+    b"1 3\n2 4\nopen 3 passed 0\n", b"1 10\nopen 3 passed 0\n", b"01 2\nopen 3 passed 0\n",
+    b"1 2 \nopen 3 passed 0\n", b"1 2\n\nopen 3 passed 0\n", b"open -1 passed 0\n", b"open 3 passed\n",
+    b"\xff\nopen 3 passed 0\n"])
+def test_texts_that_are_no_finds(text):
+    with pytest.raises(Nonsense):
+        read_finds(text, 9)
+
+
+@pytest.mark.parametrize("said", [
+    "found 1 pages\\n16\\nopen 0 passed 0\\n", "found 0 pages\\n15\\nopen 0 passed 0", "found 0 pages\\n0\\n",
+    "accepted 0 entries\\n16\\nopen 0 passed 0\\n", "found 00 pages\\n16\\nopen 0 passed 0\\n",
+    "refused 10 Outside at 3\\n0\\n"])
+def test_finds_that_are_nonsense(fake, said):
+    lines = BATCH + "next(requests()); os.write(1, b'%s'); time.sleep(60)" % said
+    with closing(Client(fake(lines), limits=Limits(seconds=600))) as program:
+        assert program.find(POINT, 1) == Unanswered(NONSENSE)
+
+
+def test_finds_that_lack_memory(fake):
+    lines = BATCH + "next(requests()); os.write(1, b'no memory\\n0\\n'); time.sleep(60)"
+    with closing(Client(fake(lines), limits=Limits(seconds=600))) as program:
+        assert program.find(POINT, 1) == Unanswered("the program had no memory for it", too_much=True)
 
 
 def test_want_of_memory_is_no_answer():

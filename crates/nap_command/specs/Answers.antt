@@ -2,7 +2,7 @@ use Rattle.std.specs.Prelude.{Err, List, Ok, Result, Some, [], decimal, drop, fa
 use Rattle.nap_command.specs.Types.{Action, BreaksWithin, Command, Entry, Failure, Fault, IsAccepted, IsMadeOf, LacksWithin, MakeFault, Question, Refusal, begun, lines, list_of, means, refusal, text}
 use Rattle.nap_lines.specs.Lines.{line}
 use Rattle.nap_make.specs.Texts.{DeniesLines}
-use Rattle.nap_command.specs.{Commands.Denies, Commands.count_line, Failures.failure_text, Failures.refusal_text, Making.failure_of}
+use Rattle.nap_command.specs.{Commands.Denies, Commands.count_line, Failures.failure_text, Failures.refusal_text, Finding.AnswersFinds, Making.failure_of}
 
 -- The line of an answer.
 
@@ -63,6 +63,7 @@ accepted_body_of Question.List budget p = lines (list_of budget p)
 accepted_body_of Question.Canon budget p = text (list_of budget p)
 accepted_body_of Question.Places budget p = places budget p
 accepted_body_of Question.Make budget p = []
+accepted_body_of Question.Find budget p = []
 
 -- the body of an answer for a refused page
 abbrev pub refused_body_of : Question → ℕ → List ℕ → List ℕ
@@ -117,9 +118,10 @@ pub record MakesNoPage (p line body : List ℕ) : Type 0 where
 abbrev pub AnswersLines : List ℕ → List ℕ → List ℕ → Type 0
 AnswersLines p line body = MakesBody p line body ⊎ MakesNoPage p line body
 
--- the line and the body of an answer; lines are charged nothing
+-- the line and the body of an answer; lines are charged nothing, and of finds the number is the least number of entries
 abbrev pub IsAnswer : Question → ℕ → List ℕ → List ℕ → List ℕ → Type 0
 IsAnswer Question.Make budget p line body = AnswersLines p line body
+IsAnswer Question.Find least p line body = AnswersFinds least p line body
 IsAnswer q budget p line body = AnswersPage q budget p line body
 
 -- the bytes of an answer

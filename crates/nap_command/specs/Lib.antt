@@ -7,6 +7,7 @@ pub mod Making
 -- Many pages through one process.
 pub mod Limits
 pub mod Requests
+pub mod Finding
 pub mod Answers
 pub mod Placing
 pub mod Buffering

@@ -17,6 +17,7 @@ question_name Question.List = codes "list"
 question_name Question.Canon = codes "canon"
 question_name Question.Places = codes "places"
 question_name Question.Make = codes "make"
+question_name Question.Find = codes "find"
 
 -- the line of a request, without LF
 pub record IsLine (line : List ℕ) (r : RequestLine) : Type 0 where

@@ -4,9 +4,11 @@ ghost use Rattle.nap_command.specs.declared.command.Action.TheVariants.{Check};
 ghost use Rattle.nap_command.specs.Commands.{PrintsBy, count_line};
 ghost use Rattle.nap_command.specs.Answers.{AnswersLines, IsAnswer, answer_text, ended_line, page_command};
 ghost use Rattle.nap_command.specs.Failures.{failure_text};
+ghost use Rattle.nap_command.specs.Finding.{AnswersFinds};
 ghost use Rattle.nap_command.specs.declared.batch.answer.TheConstants.{HEAD_SPACE};
 
 use crate::answer::{Printout, answer_stream, count_line, failure_line};
+use crate::batch::finding::{find_pages, found_line};
 use crate::batch::places::read_places;
 use crate::batch::request::Question;
 use crate::command::{Action, Command};
@@ -216,6 +218,17 @@ fn make_answer(alloc: Global, lines: &[u8]) -> Result<BatchAnswer, AllocError>
     }
 }
 
+/// Returns the answer with the pages among some bytes, each of which has so many entries at least.
+fn find_answer(alloc: Global, least: Budget, bytes: &[u8]) -> Result<BatchAnswer, AllocError>
+    ensures { IfOk result (λ a. AnswersFinds least bytes.now a.line.items a.body) }
+{
+    let found = find_pages(alloc, least.get(), bytes)?;
+    Ok(BatchAnswer {
+        line: found_line(alloc, found.count as u64)?,
+        body: Body::new(found.text),
+    })
+}
+
 /// Returns the answer to a question about a page. The error is lack of memory, but not in reading the page.
 pub fn answer_page(
     alloc: Global,
@@ -237,5 +250,6 @@ pub fn answer_page(
         Question::Canon => canon_answer(alloc, budget, page),
         Question::Places => places_answer(alloc, budget, page),
         Question::Make => make_answer(alloc, page),
+        Question::Find => find_answer(alloc, budget, page),
     }
 }

@@ -19,6 +19,8 @@ pub enum Question {
     Places,
     /// The page that its lines make.
     Make,
+    /// The pages among its bytes.
+    Find,
 }
 
 /// The greatest number of bytes of a page.
@@ -32,7 +34,7 @@ const LINE_LIMIT: usize = 24;
 pub struct RequestLine {
     /// The question.
     pub question: Question,
-    /// How many bytes of macro bodies may be charged.
+    /// How many bytes of macro bodies may be charged; or how many entries a find has at least.
     pub budget: Budget,
     /// The number of bytes of the page.
     pub size: u32,
@@ -60,6 +62,7 @@ impl Question {
             _ if name == b"canon".as_slice() => Some(Question::Canon),
             _ if name == b"places".as_slice() => Some(Question::Places),
             _ if name == b"make".as_slice() => Some(Question::Make),
+            _ if name == b"find".as_slice() => Some(Question::Find),
             _ => None,
         }
     }
