@@ -112,7 +112,7 @@ OF_SOURCES = (
           "tests/sources/test_stands_alone.py", "MODEL.md"),
     Fault("a name that is imported in vain", put("python/naplps/names.py", r"(?m)^import ", "import zlib\nimport "),
           "tests/sources/test_python.py::test_pyflakes_finds_nothing", "zlib"),
-    Fault("a count that is another", put("docs/LIBRARY.md", r"\beleven calls", "ten calls"), COUNTS, "ten calls"),
+    Fault("a count that is another", put("docs/LIBRARY.md", r"\btwelve calls", "ten calls"), COUNTS, "ten calls"),
     Fault("a module that isn't there", put("python/README.md", "`canon_filling`", "`canon_filler`"), COUNTS,
           "canon_filler"),
     Fault("a promise by a function that isn't there", put("docs/PROMISES.md", "`set_at`", "`at`"),

@@ -1,6 +1,7 @@
 /* naplps.h: reads pages of NAPLPS (ANSI X3.110-1983, CSA T500-1983) that are in memory.
 
-   Each call but naplps_make is given a page and a budget. Most are given a room too, into which they put a text:
+   Each call but naplps_make and naplps_find is given a page and a budget. Most are given a room too, into which they
+   put a text:
 
    page, length  the bytes of the page, which are only read, and mustn't change before the call returns. Any byte may
                  stand in it, NUL too.
@@ -73,9 +74,9 @@ enum naplps_refusal {
     NAPLPS_MEMORY = 21 /* there was no memory, which says nothing of the page */
 };
 
-/* An answer. Where nothing is refused, number and place are 0, and the name is empty; so a number that isn't 0 tells of
-   a refusal by each call. NAPLPS_NO_BUDGET comes before all else. NAPLPS_REFUSED comes before NAPLPS_SMALL_ROOM, but of
-   naplps_places behind it, since a refused page has a text there.
+/* An answer. Where nothing is refused, number and place are 0, but of naplps_find the place, and the name is empty; so
+   a number that isn't 0 tells of a refusal by each call. NAPLPS_NO_BUDGET comes before all else. NAPLPS_REFUSED comes
+   before NAPLPS_SMALL_ROOM, but of naplps_places behind it, since a refused page has a text there.
 
    It is returned by value, has 56 bytes and is aligned to 8: status is at 0, number at 4, place at 8, length at 16 and
    name at 24. */
@@ -83,7 +84,7 @@ struct naplps_answer {
     uint32_t status; /* one of enum naplps_status */
     uint32_t number; /* one of enum naplps_refusal, or 0 */
     uint64_t place;  /* the offset of the byte that is refused; the length of the page for what is found at its end;
-                        with NAPLPS_MEMORY it says nothing of the page */
+                        with NAPLPS_MEMORY it says nothing of the page; of naplps_find see there */
     uint64_t length; /* how many bytes the text has, whatever the room; of naplps_check and naplps_check_finish, how
                         many entries there are; 0 where there is no text or count, so with NAPLPS_NO_BUDGET and
                         NAPLPS_NOT_BEGUN, and with NAPLPS_REFUSED but of naplps_places */
@@ -116,6 +117,15 @@ struct naplps_answer naplps_canon_form1(uint32_t budget, const uint8_t *page, si
    is theirs. Where the room is too small for them, number, place and name tell of the refusal too. With NAPLPS_MEMORY
    there is no line. */
 struct naplps_answer naplps_places(uint32_t budget, const uint8_t *page, size_t length, uint8_t *room, size_t size);
+
+/* Gives a line for each page among other bytes, such as those of a disk image, as FINDING.md has them: the offset of
+   its first byte, a space, and the offset after its last byte. Each has at least this number of entries, twice as many
+   bytes, and one shape. The last line is "open P passed M": from the offset P on bytes that follow may change what is
+   found, and M beginnings were passed over. The answer has P as its place. Nothing is refused but for want of memory.
+
+   For bytes in pieces keep those from P on, fewer than 1048576, append the next piece to them, and call again. What
+   begins before P is final. */
+struct naplps_answer naplps_find(uint32_t least, const uint8_t *bytes, size_t length, uint8_t *room, size_t size);
 
 /* Why lines make no page. */
 enum naplps_line_fault {

@@ -24,6 +24,7 @@ void *naplps_list(struct answer *into, u32 budget, const u8 *page, usize length,
 void *naplps_canon(struct answer *into, u32 budget, const u8 *page, usize length, u8 *room, usize size);
 void *naplps_canon_form1(struct answer *into, u32 budget, const u8 *page, usize length, u8 *room, usize size);
 void *naplps_places(struct answer *into, u32 budget, const u8 *page, usize length, u8 *room, usize size);
+void *naplps_find(struct answer *into, u32 least, const u8 *bytes, usize length, u8 *room, usize size);
 void *naplps_make(struct made *into, const u8 *lines, usize length, u8 *room, usize size);
 bool naplps_is_plain(const u8 *page, usize length);
 void *naplps_check_begin(struct answer *into, struct checking *page, u32 budget);
@@ -56,6 +57,9 @@ void canon_form1(u32 budget, u32 page, u32 length, u32 room, u32 size) {
 }
 void places(u32 budget, u32 page, u32 length, u32 room, u32 size) {
     naplps_places(&answer.page, budget, at(page), length, at(room), size);
+}
+void find(u32 least, u32 bytes, u32 length, u32 room, u32 size) {
+    naplps_find(&answer.page, least, at(bytes), length, at(room), size);
 }
 void make(u32 lines, u32 length, u32 room, u32 size) {
     naplps_make(&answer.lines, at(lines), length, at(room), size);

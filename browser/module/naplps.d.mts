@@ -16,6 +16,8 @@ export function load(source?: URL | string | Bytes | WebAssembly.Module, options
 /** How many bytes of macro bodies a page may be charged with, where nothing else is said; and the most that may be. */
 export const USUAL_BUDGET: number;
 export const MOST_BUDGET: number;
+/** How many entries a find has at least, where nothing else is said. */
+export const LEAST_ENTRIES: 12;
 /** The calls of the library, by a compiled module. One call runs at a time, as everything in JavaScript. */
 export class Naplps {
     /**
@@ -54,6 +56,12 @@ export class Naplps {
     places(page: Bytes, budget?: number): Written | (Refused & {
         bytes: Uint8Array;
     });
+    /**
+     * The pages among other bytes, as docs/FINDING.md has them. Each has at least this number of entries, twice as many
+     * bytes, and one shape. It is refused for want of memory alone.
+     * @param {Bytes} bytes @param {number} [least] @returns {Finds | Refused}
+     */
+    find(bytes: Bytes, least?: number): Finds | Refused;
     /**
      * The page that lines make, as `list` gives them: its canonical stream.
      * @param {Bytes} lines @returns {Made | NotMade}
@@ -103,6 +111,23 @@ export type Made = {
     accepted: true;
     bytes: Uint8Array;
     entries: number;
+};
+/**
+ * A page among other bytes: the offset of its first byte, and the offset after its last byte.
+ */
+export type Find = {
+    begin: number;
+    end: number;
+};
+/**
+ * The finds, in order; the offset from which on bytes that follow may change them; and how many beginnings were
+ * passed over.
+ */
+export type Finds = {
+    accepted: true;
+    finds: Find[];
+    open: number;
+    passed: number;
 };
 /**
  * Why a page is refused: the number and the name as docs/PROFILE.md has them, and the offset of the byte. A later

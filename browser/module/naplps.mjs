@@ -16,11 +16,19 @@
 export const USUAL_BUDGET = 1 << 20;
 export const MOST_BUDGET = 1 << 26;
 
+/** How many entries a find has at least, where nothing else is said. */
+export const LEAST_ENTRIES = 12;
+
 /**
  * @typedef {ArrayBuffer | ArrayBufferView} Bytes
  * @typedef {{accepted: true, entries: number}} Counted
  * @typedef {{accepted: true, bytes: Uint8Array}} Written
  * @typedef {{accepted: true, bytes: Uint8Array, entries: number}} Made
+ * @typedef {{begin: number, end: number}} Find
+ *   A page among other bytes: the offset of its first byte, and the offset after its last byte.
+ * @typedef {{accepted: true, finds: Find[], open: number, passed: number}} Finds
+ *   The finds, in order; the offset from which on bytes that follow may change them; and how many beginnings were
+ *   passed over.
  * @typedef {{accepted: false, number: number, name: string, place: number}} Refused
  *   Why a page is refused: the number and the name as docs/PROFILE.md has them, and the offset of the byte. A later
  *   version may have more numbers. Of 21, Memory, the place says nothing.
@@ -51,11 +59,11 @@ function bytesOf(it) {
   throw new TypeError("a page or lines are bytes: an ArrayBuffer, or a view of one");
 }
 
-/** @param {unknown} it @returns {number} */
-function budgetOf(it) {
-  if (typeof it !== "number") throw new TypeError("a budget is a number");
+/** @param {unknown} it @param {string} [what] @returns {number} */
+function budgetOf(it, what = "a budget") {
+  if (typeof it !== "number") throw new TypeError(`${what} is a number`);
   if (!Number.isInteger(it) || it < 0 || it > MOST_BUDGET) {
-    throw new RangeError(`a budget is a whole number from 0 to ${MOST_BUDGET}`);
+    throw new RangeError(`${what} is a whole number from 0 to ${MOST_BUDGET}`);
   }
   return it;
 }
@@ -182,6 +190,16 @@ export class Naplps {
   }
 
   /**
+   * The pages among other bytes, as docs/FINDING.md has them. Each has at least this number of entries, twice as many
+   * bytes, and one shape. It is refused for want of memory alone.
+   * @param {Bytes} bytes @param {number} [least] @returns {Finds | Refused}
+   */
+  find(bytes, least = LEAST_ENTRIES) {
+    const answer = this.#text("find", bytes, budgetOf(least, "a number of entries"), 1);
+    return answer.accepted ? findsOf(new TextDecoder().decode(answer.bytes)) : answer;
+  }
+
+  /**
    * The page that lines make, as `list` gives them: its canonical stream.
    * @param {Bytes} lines @returns {Made | NotMade}
    */
@@ -273,6 +291,13 @@ export class Naplps {
     if (it.size <= LARGE_INSTANCE) this.#instance = it;
     return answer;
   }
+}
+
+/** @param {string} text @returns {Finds} */
+function findsOf(text) {
+  const lines = text.trimEnd().split("\n").map((line) => line.split(" ")), last = lines.pop() ?? [];
+  const finds = lines.map(([begin, end]) => ({begin: Number(begin), end: Number(end)}));
+  return {accepted: true, finds, open: Number(last[1]), passed: Number(last[3])};
 }
 
 /** @param {number} fault @param {number} line @param {number} column @param {number} opening @returns {NotMade} */

@@ -108,6 +108,9 @@ struct naplps_answer naplps_canon_form1(uint32_t budget, const uint8_t *page, si
 struct naplps_answer naplps_places(uint32_t budget, const uint8_t *page, size_t length, uint8_t *room, size_t size) {
     return text(Z_naplpsZ_places, budget, page, length, room, size);
 }
+struct naplps_answer naplps_find(uint32_t least, const uint8_t *bytes, size_t length, uint8_t *room, size_t size) {
+    return text(Z_naplpsZ_find, least, bytes, length, room, size);
+}
 
 struct naplps_made naplps_make(const uint8_t *lines, size_t length, uint8_t *room, size_t size) {
     Z_naplps_instance_t *it = begin();

@@ -29,22 +29,22 @@ INTRINSICS = re.compile(
     r"llvm\.(?:mem(?:cpy|move|set)|ctlz|cttz|ctpop|bswap|bitreverse|fsh[lr]|[su](?:min|max)|abs|[us](?:add|sub)\.sat|"
     r"[us](?:add|sub|mul)\.with\.overflow|lifetime\.(?:start|end)|assume|expect|trap|vector\.reduce\.\w+|"
     r"experimental\.noalias\.scope\.decl)(?:\.|$)")
-# The types of the eleven calls, and of what they ask for memory. An answer is written where the first pointer leads.
+# The types of the twelve calls, and of what they ask for memory. An answer is written where the first pointer leads.
 TEXT_CALL = "ptr (ptr, i32, ptr, i64, ptr, i64)"
 DEFINED = {
     "naplps_check": "ptr (ptr, i32, ptr, i64)", "naplps_list": TEXT_CALL, "naplps_canon": TEXT_CALL,
-    "naplps_canon_form1": TEXT_CALL, "naplps_places": TEXT_CALL, "naplps_make": "ptr (ptr, ptr, i64, ptr, i64)",
-    "naplps_is_plain": "i1 (ptr, i64)", "naplps_check_begin": "ptr (ptr, ptr, i32)",
-    "naplps_check_feed": "ptr (ptr, ptr, ptr, i64)", "naplps_check_finish": "ptr (ptr, ptr)",
-    "naplps_check_drop": "void (ptr)",
+    "naplps_canon_form1": TEXT_CALL, "naplps_places": TEXT_CALL, "naplps_find": TEXT_CALL,
+    "naplps_make": "ptr (ptr, ptr, i64, ptr, i64)", "naplps_is_plain": "i1 (ptr, i64)",
+    "naplps_check_begin": "ptr (ptr, ptr, i32)", "naplps_check_feed": "ptr (ptr, ptr, ptr, i64)",
+    "naplps_check_finish": "ptr (ptr, ptr)", "naplps_check_drop": "void (ptr)",
 }
 DECLARED = {
     "rattle_alloc": "{ i64, i64 } (i64, i64)", "rattle_realloc": "{ i64, i64 } (ptr, i64, i64, i64)",
     "rattle_dealloc": "void (ptr)",
 }
 EXPORTS = (
-    "check", "list", "canon", "canon_form1", "places", "make", "is_plain", "check_begin", "check_feed", "check_finish",
-    "check_drop", "place_of_answer", "take", "forget", "limit_blocks", "end_of_blocks",
+    "check", "list", "canon", "canon_form1", "places", "find", "make", "is_plain", "check_begin", "check_feed",
+    "check_finish", "check_drop", "place_of_answer", "take", "forget", "limit_blocks", "end_of_blocks",
     "end_refused",
 )
 # The bytes of the stack, below all else, and of memory at most, so that what is below 0 is never there.

@@ -97,6 +97,26 @@ static void try_lines(void) {
     check(is_made(naplps_make(NULL, 0, room, 64), NAPLPS_ACCEPTED, 3, 0), "a page of no lines");
 }
 
+// A page between zeros, with rooms of each kind; bytes after it may change what is found from the row that is open.
+static void try_finds(void) {
+    const char *const text = "17 24\nopen 17 passed 0\n";
+    uint8_t room[64], bytes[24] = {0};
+    size_t size = strlen(text);
+    memcpy(bytes + 17, "\x0C" POINT, 6);
+    bytes[23] = 0x41;
+    memset(room, UNTOUCHED, sizeof room);
+    check(says(naplps_find(1, bytes, 24, NULL, 0), NAPLPS_SMALL_ROOM, 0, 17, "", size), "no room for finds");
+    struct naplps_answer small = naplps_find(1, bytes, 24, room, size - 1);
+    check(says(small, NAPLPS_SMALL_ROOM, 0, 17, "", size), "a small room for finds");
+    check(is_untouched(room, 0, sizeof room), "the small room");
+    check(says(naplps_find(1, bytes, 24, room, 64), NAPLPS_ACCEPTED, 0, 17, "", size), "a page between zeros");
+    check(memcmp(room, text, size) == 0 && is_untouched(room, size, sizeof room), "the lines of finds");
+    check(says(naplps_find(UINT32_MAX, bytes, 24, room, 64), NAPLPS_ACCEPTED, 0, 17, "", 17), "the greatest number");
+    check(memcmp(room, "open 17 passed 0\n", 17) == 0, "no find");
+    check(says(naplps_find(0, NULL, 0, room, 64), NAPLPS_ACCEPTED, 0, 0, "", 16), "finds in nothing");
+    check(memcmp(room, "open 0 passed 0\n", 16) == 0, "no byte");
+}
+
 static void try_budgets(void) {
     check(says(naplps_check(NAPLPS_BUDGET_MOST, BYTES(MACRO)), NAPLPS_ACCEPTED, 0, 0, "", 1), "the greatest budget");
     check(says(naplps_check(NAPLPS_BUDGET_USUAL, BYTES(MACRO)), NAPLPS_ACCEPTED, 0, 0, "", 1), "the usual budget");
@@ -143,6 +163,7 @@ int main(void) {
     try_empty();
     try_refused();
     try_lines();
+    try_finds();
     try_budgets();
     try_begun();
     printf("%d answers\n", passed);

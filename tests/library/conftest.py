@@ -4,7 +4,8 @@ from typing import List
 
 import pytest
 
-from dev.layout import Untried, find_library
+from batch_requests import request
+from dev.layout import TOP, Untried, find_library
 from dev.vectors.rows import Vector, files, vectors_of
 from samples import need
 
@@ -29,3 +30,11 @@ def library() -> Path:
 def vectors() -> List[Vector]:
     """The vectors of all files."""
     return [vector for file in files() for vector in vectors_of(file)]
+
+
+@pytest.fixture(scope="session")
+def finds() -> bytes:
+    """Requests for the pages among other bytes: those of the gallery, whole and cut, and none."""
+    pages = [path.read_bytes() for path in sorted((TOP / "examples" / "gallery").glob("*.nap"))]
+    image = b"".join(bytes(40) + page + b"\x80" + page[: len(page) // 2] for page in pages)
+    return b"".join(request("find", least, part) for part in (image, image[:-9], b"") for least in (0, 1, 12, 1 << 26))

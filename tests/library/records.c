@@ -2,7 +2,8 @@
 //
 // A record is three numbers of 32 bits, least byte first, and bytes: 0 for a page or 1 for lines, the budget, and how
 // many bytes there are. Its answers are how many bytes they have, in 32 bits, and then structs and texts: of lines
-// those of naplps_make; of a page those of each call, of naplps_make on its list, and of its three pieces.
+// those of naplps_make; of a page those of each call, of naplps_make on its list, and of its three pieces. naplps_find
+// is asked for one entry at least.
 #include "calls.h"
 
 struct answers {
@@ -66,6 +67,8 @@ static void add_page(struct answers *to, uint32_t budget, const uint8_t *page, s
         if (i == 0) add_made(to, text, need);
         free(text);
     }
+    size_t need;
+    free(add_text(to, naplps_find, 1, page, length, &need));
     uint8_t plain = naplps_is_plain(page, length);
     add(to, &plain, 1);
     add_pieces(to, budget, page, length);

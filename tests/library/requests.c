@@ -141,6 +141,16 @@ static void answer_lines(const uint8_t *lines, size_t length) {
     free(page);
 }
 
+static void answer_finds(uint32_t least, const uint8_t *bytes, size_t length) {
+    struct text text = ask(naplps_find, least, bytes, length);
+    unsigned long long count = 0, size = text.answer.length;
+    for (size_t i = 0; i + 1 < size; i++) count += text.bytes[i] == '\n';
+    must(text.answer.status == NAPLPS_ACCEPTED && text.answer.place <= length, "finds are refused");
+    printf("found %llu pages\n%llu\n", count, size);
+    fwrite(text.bytes, 1, size, stdout);
+    free(text.bytes);
+}
+
 static void answer_request(const char *command, uint32_t budget, const uint8_t *page, size_t length) {
     for (int i = 0; i < TEXT_CALLS; i++) {
         if (strcmp(command, text_calls[i].name) == 0) {
@@ -150,6 +160,10 @@ static void answer_request(const char *command, uint32_t budget, const uint8_t *
     }
     if (strcmp(command, "make") == 0) {
         answer_lines(page, length);
+        return;
+    }
+    if (strcmp(command, "find") == 0) {
+        answer_finds(budget, page, length);
         return;
     }
     if (strcmp(command, "check") == 0) {

@@ -169,6 +169,14 @@ def test_vectors_of_lines(command: Command, kind: str) -> None:
     assert not wrong, "\n".join(wrong[:10])
 
 
+@pytest.mark.parametrize("kind", KINDS)
+def test_finds(command: Command, naplps: str, finds: bytes, kind: str) -> None:
+    """The pages among other bytes are the program's."""
+    expected = run([naplps, "batch"], finds, stdin=subprocess.PIPE)
+    assert expected.out.startswith(b"found ")
+    assert run(command("requests", kind), finds, stdin=subprocess.PIPE) == expected
+
+
 @pytest.mark.parametrize("name, option, count", [
     ("fuzz_library", "--streams", "6000"), ("fuzz_lines", "--inputs", "20000")], ids=["streams", "lines"])
 def test_fuzzing(compiler: str, naplps: str, library: Path, name: str, option: str, count: str) -> None:

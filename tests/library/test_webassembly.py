@@ -164,6 +164,12 @@ def test_vectors_of_lines(module: Path) -> None:
     assert not wrong, "\n".join(wrong[:10])
 
 
+def test_finds(naplps: str, module: Path, finds: bytes) -> None:
+    """The pages among other bytes are the program's."""
+    expected = run([naplps, "batch"], finds, stdin=subprocess.PIPE)
+    assert run(["node", str(TESTS / "requests.mjs"), str(module)], finds, stdin=subprocess.PIPE) == expected
+
+
 @pytest.mark.parametrize("name", KINDS)
 def test_records(node: Node, records: Records, name: str) -> None:
     """Each call has the bytes of the library, structs and texts, in Node."""

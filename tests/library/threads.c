@@ -3,7 +3,7 @@
 
 #include <pthread.h>
 
-enum { THREADS = 8, ROUNDS = 4000, PAGES = 6, ROOM = 4096, CALLS = TEXT_CALLS + 2 };
+enum { THREADS = 8, ROUNDS = 4000, PAGES = 6, ROOM = 4096, CALLS = TEXT_CALLS + 3 };
 
 static const char *const pages[PAGES] = {
     "\x0E\x26\x52\x40\x40",
@@ -21,7 +21,8 @@ static struct naplps_answer call(int number, int page, uint8_t *room) {
     const uint8_t *bytes = (const uint8_t *)pages[page];
     size_t length = strlen(pages[page]);
     if (number == TEXT_CALLS) return naplps_check(1000, bytes, length);
-    if (number > TEXT_CALLS) return check_pieces(1000, bytes, length, 3);
+    if (number == TEXT_CALLS + 1) return check_pieces(1000, bytes, length, 3);
+    if (number > TEXT_CALLS) return naplps_find(1, bytes, length, room, ROOM);
     return text_calls[number].call(1000, bytes, length, room, ROOM);
 }
 
@@ -31,7 +32,7 @@ static void *work(void *first) {
     for (int round = 0; round < ROUNDS; round++) {
         int page = (round + (int)(intptr_t)first) % PAGES, number = round / PAGES % CALLS;
         struct naplps_answer answer = call(number, page, room);
-        int has_text = number < TEXT_CALLS;
+        int has_text = number < TEXT_CALLS || number == CALLS - 1;
         wrong += !are_equal(answer, wanted[page][number]) ||
                  (has_text && memcmp(room, texts[page][number], answer.length) != 0);
     }

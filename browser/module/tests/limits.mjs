@@ -3,7 +3,7 @@
 import {readFileSync} from "node:fs";
 
 const bytes = readFileSync(process.argv[2]), pages = Number(process.argv[3]), data = readFileSync(0);
-const CALLS = ["check", "list", "canon", "canon_form1", "places", "make"];
+const CALLS = ["check", "list", "canon", "canon_form1", "places", "find", "make"];
 const STACK = 1 << 16, MEMORY = 21, NO_MEMORY = 4, LONGEST = 3000, ALL = 0xFFFFFFFF;
 
 const start = (code) => new WebAssembly.Instance(new WebAssembly.Module(code), {}).exports;

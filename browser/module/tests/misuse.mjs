@@ -3,7 +3,7 @@ import {readFileSync} from "node:fs";
 import {MOST_BUDGET, describe, load} from "../naplps.mjs";
 
 const bytes = readFileSync(process.argv[2]), module = new WebAssembly.Module(bytes), naplps = await load(module);
-const point = Uint8Array.of(0x0E, 0x26, 0x52, 0x40, 0x40), calls = ["check", "list", "canon", "canonForm1", "places"];
+const point = Uint8Array.of(0x0E, 0x26, 0x52, 0x40, 0x40), calls = ["check", "list", "canon", "canonForm1", "places", "find"];
 let wrong = 0;
 
 function must(right, what) {

@@ -76,6 +76,7 @@ class Calls {
     this.check(budget, page);
     this.make(this.text("list", page, [budget], 16, 56));
     for (const call of ["canon", "canon_form1", "places"]) this.text(call, page, [budget], 16, 56);
+    this.text("find", page, [1], 16, 56);
     this.plain(page);
     this.pieces(budget, page);
   }

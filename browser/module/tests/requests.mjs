@@ -47,6 +47,11 @@ function answer(command, budget, page) {
     if (made.accepted) must(Buffer.compare(naplps.list(made.bytes, 0).bytes, page) === 0, "a made page has other lines");
     return [describe(made), made.bytes ?? new Uint8Array()];
   }
+  if (command === "find") {
+    const {finds, open, passed} = naplps.find(page, budget);
+    const lines = finds.map(({begin, end}) => `${begin} ${end}\n`).join("");
+    return [`found ${finds.length} pages`, Buffer.from(`${lines}open ${open} passed ${passed}\n`)];
+  }
   const counted = describe(naplps.check(page, budget));
   if (command === "check") tryPieces(page, budget, counted);
   if (command === "check") return [counted, new Uint8Array()];

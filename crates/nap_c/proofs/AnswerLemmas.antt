@@ -4,7 +4,9 @@ use Rattle.nap_command.proofs.PublicLaws.{is_memory, still_refused}
 use Rattle.std.proofs.{lemmas.Bool.false≢true, lemmas.List.get_or_append_left, lemmas.List.take-append-le}
 use Rattle.nap_make.specs.{Texts.IsPageMade, declared.page.MadePage.MadePage}
 use Rattle.nap_reader.specs.{Collecting.IsRead, Collecting.LacksMemoryFor, declared.reader.Stopped.Stopped}
-use Rattle.nap_c.specs.Answers.{AnswersInBudget, AnswersMaking, CountsInBudget, IsGiven, IsTextOf, ended_answer, offered_answer}
+use Rattle.nap_c.specs.Answers.{AnswersInBudget, AnswersMaking, CopiesFinds, CountsInBudget, IsGiven, IsTextOf, ended_answer, found_answer, offered_answer}
+use Rattle.nap_command.specs.Finding.{asked_for, finds_text}
+use Rattle.nap_find.specs.Rows.{open_of}
 use Rattle.nap_canon.specs.Names.{BreaksAmong, BreaksInRun, Cause, Entry, Ghosts, LacksWithin, Outcome, Reader, WantsSome, begun, cause_of, device, memory, stream}
 use Rattle.nap_command.specs.Answers.{IsPlaced, places}
 use Rattle.nap_list.specs.Counting.{Uncounted}
@@ -101,6 +103,13 @@ answers_page _ old new text page _ given _ made same gives is says =
       room = subst (λ bytes. IsGiven bytes old new given) same (subst (IsGiven text old new) is gives);
       answer_is = says ∙ ap₂ (offered_answer given) (ap length same) made.1;
     })
+
+-- The finds were copied to a room, or the room is too small for them.
+pub copies_finds : (least : ℕ) (p text old new : List ℕ) (place : ℕ) (whole a : Answer) → text ≡ finds_text least p → place ≡ open_of (asked_for least) p → whole ≡ found_answer place (length text) →
+    Offers text old new whole a → CopiesFinds least p old new a
+copies_finds least p text old new place whole a is at says offers =
+    let known = subst (λ (w : Answer). Offers text old new w a) (says ∙ ap (λ n. found_answer n (length text)) at) offers in
+    inl (subst (λ bytes. Offers bytes old new (found_answer (open_of (asked_for least) p) (length bytes)) a) is known)
 
 device_fault : (f : Fault) → cause_of f ≡ device → f ≡ Fault.Sink
 device_fault f is = grind arith

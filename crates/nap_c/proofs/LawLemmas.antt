@@ -2,8 +2,9 @@
 
 use Rattle.nap_c.proofs.{Answer, IsAccepted, List, None, Offers, Refusal, Some, accepted_answer, arith, inl, inr, length, means, refused_answer, subst, sym, ℕ, ◌∙◌, ◌≡◌, ◌≤◌}
 use Rattle.nap_reader.specs.Budgets.{most_budget}
-use Rattle.nap_command.specs.{declared.batch.request.Question.Question, Answers.AnswersPage, Answers.accepted_body_of, Answers.refused_body_of}
-use Rattle.nap_c.specs.Answers.{AgreeOnCount, AgreeOnText, AnswersCall, AnswersCount, AnswersNoBudget, LibraryAnswersAsBatch}
+use Rattle.nap_find.specs.Rows.{open_of}
+use Rattle.nap_command.specs.{declared.batch.request.Question.Question, Finding.AnswersFinds, Finding.asked_for, Answers.AnswersPage, Answers.accepted_body_of, Answers.refused_body_of}
+use Rattle.nap_c.specs.Answers.{AgreeOnCount, AgreeOnFinds, AgreeOnText, AnswersCall, AnswersCount, AnswersNoBudget, CopiesFinds, LibraryAnswersAsBatch, found_answer}
 
 module _ (budget : ℕ) (p : List ℕ) where
   -- no page is both accepted and refused
@@ -45,9 +46,16 @@ module _ (budget : ℕ) (p : List ℕ) where
     text_alike _ _ (inr (inr h)) _ = inr (inr (record { place = h.place; answer = inl h.line_is }))
     text_alike _ _ _ (inr (denied, same)) = absurd (not_denied a most denied)
 
+finds_alike : (least : ℕ) (p line body old new : List ℕ) (a : Answer) → AnswersFinds least p line body → CopiesFinds least p old new a → AgreeOnFinds body old new a
+finds_alike least p line body old new a is (inl offers) =
+    let place = open_of (asked_for least) p in
+    (place, inl (subst (λ text. Offers text old new (found_answer place (length text)) a) (sym is.body_is) offers))
+finds_alike least p line body old new a is (inr lacks) = (length p, inr lacks.0)
+
 pub library_answers_as_batch : LibraryAnswersAsBatch
 library_answers_as_batch Question.Check budget p line body old new a most = count_alike budget p line body old new a most
 library_answers_as_batch Question.List budget p line body old new a most = text_alike budget p line body old new a most Question.List _
 library_answers_as_batch Question.Canon budget p line body old new a most = text_alike budget p line body old new a most Question.Canon _
 library_answers_as_batch Question.Places budget p line body old new a most = text_alike budget p line body old new a most Question.Places _
 library_answers_as_batch Question.Make _ _ _ _ _ _ _ _ = λ _ given. absurd given
+library_answers_as_batch Question.Find least p line body old new a most = finds_alike least p line body old new a

@@ -3,7 +3,8 @@ use lib.ListN.{replicate}
 use Rattle.nap_canon.specs.Names.{BreaksWithin, Fault, LacksWithin, Refusal, means, refusal}
 use Rattle.nap_canon.specs.{Streams.IsAccepted, Streams.list_of, Text.text}
 use Rattle.nap_reader.specs.{Budgets.most_budget, Faults.number_of}
-use Rattle.nap_command.specs.{Failures.fault_text, Answers.IsAnswer, Answers.places, Answers.refused_line, Commands.count_line, declared.batch.request.Question.Question}
+use Rattle.nap_find.specs.Rows.{open_of}
+use Rattle.nap_command.specs.{Failures.fault_text, Finding.asked_for, Finding.finds_text, Answers.IsAnswer, Answers.places, Answers.refused_line, Commands.count_line, declared.batch.request.Question.Question}
 use Rattle.nap_make.specs.{declared.lines.MakeFault.MakeFault, Making.IsMadeOf, Texts.DeniesLines}
 use Rattle.nap_lines.specs.Listing.{lines}
 use Rattle.nap_c.specs.{declared.answer.Answer.Answer, declared.made.Made.Made}
@@ -193,6 +194,18 @@ pub record AnswersUnmade (p old new : List ℕ) (answer : Made) : Type 0 where
 abbrev pub AnswersMaking : List ℕ → List ℕ → List ℕ → Made → Type 0
 AnswersMaking p old new answer = AnswersMade p old new answer ⊎ AnswersUnmade p old new answer
 
+-- The answer to a call on bytes with pages among them.
+
+-- the answer for finds that bytes that follow may change from this place on, with a text of this length
+abbrev pub found_answer : ℕ → ℕ → Answer
+found_answer place n = record (accepted_answer n) { place = place }
+
+-- The lines of the finds and the last line were copied; or memory ran out, and the room is unchanged.
+abbrev pub CopiesFinds : ℕ → List ℕ → List ℕ → List ℕ → Answer → Type 0
+CopiesFinds least p old new a =
+    Offers (finds_text least p) old new (found_answer (open_of (asked_for least) p) (length (finds_text least p))) a
+    ⊎ ((a ≡ memory_answer (length p)) × (new ≡ old))
+
 -- The library and `batch`.
 
 -- the answer to a question about a page, as the call of the same name gives it
@@ -202,6 +215,7 @@ AnswersAs Question.List budget p old new a = AnswersText budget p (BreaksWithin 
 AnswersAs Question.Canon budget p old new a = AnswersText budget p (LacksForText budget p) (text (list_of budget p)) old new a
 AnswersAs Question.Places budget p old new a = AnswersPlaces budget p old new a
 AnswersAs Question.Make budget p old new a = ⊥
+AnswersAs Question.Find least p old new a = CopiesFinds least p old new a
 
 -- Both accept: the line has a number of entries.
 pub record BothAccept (line : List ℕ) (Accepts : ℕ → Type 0) : Type 0 where
@@ -230,9 +244,14 @@ AgreeOnText line body old new a =
     BothAccept line (λ n. Offers body old new (accepted_answer (length body)) a)
     ⊎ (BothRefuse line (λ r. Offers body old new (refused_answer r (length body)) a) ⊎ EitherLacks line a)
 
+-- the text for the room is the body, unless memory ran out
+abbrev pub AgreeOnFinds : List ℕ → List ℕ → List ℕ → Answer → Type 0
+AgreeOnFinds body old new a = (place : ℕ) × (Offers body old new (found_answer place (length body)) a ⊎ (a ≡ memory_answer place))
+
 -- `check` counts, and the others give a text
 abbrev pub Agree : Question → List ℕ → List ℕ → List ℕ → List ℕ → Answer → Type 0
 Agree Question.Check line body old new a = AgreeOnCount line a
+Agree Question.Find line body old new a = AgreeOnFinds body old new a
 Agree _ line body old new a = AgreeOnText line body old new a
 
 -- The calls of the library and `batch` answer alike.

@@ -4,6 +4,7 @@
 mod answer;
 mod call;
 mod checking;
+mod finds;
 pub mod laws;
 mod made;
 mod pieces;
@@ -13,5 +14,6 @@ pub use call::{
     naplps_canon, naplps_canon_form1, naplps_check, naplps_is_plain, naplps_list, naplps_places,
 };
 pub use checking::Checking;
+pub use finds::naplps_find;
 pub use made::{Made, naplps_make};
 pub use pieces::{naplps_check_begin, naplps_check_drop, naplps_check_feed, naplps_check_finish};
