@@ -14,6 +14,8 @@ WRONG_LINE = (rb"line ([1-9][0-9]{0,17}): (?:no line of a list, at column ([1-9]
 FOUND = rb"found (0|[1-9][0-9]{0,17}) pages"
 FIND = rb"(0|[1-9][0-9]{0,17}) ([1-9][0-9]{0,17})"
 OPEN = rb"open (0|[1-9][0-9]{0,17}) passed (0|[1-9][0-9]{0,19})"
+# The calls whose answers aren't about one page.
+OF_OTHERS = ("make", "find")
 NO_MEMORY = "the program had no memory for it"
 NONSENSE = "the program answered something that is no answer"
 # Refusals that say nothing of the page.
@@ -286,19 +288,18 @@ class AnswerParser:
         if self.most is not None and self._length > self.most:
             raise AnswerTooLong(self._length)
         page, line = self.pages[len(self.answers)], come[at:first]
-        self._answer = self._read_answer(line, page)
+        self._answer = self._read_other(line, page) if self.call in OF_OTHERS else read_line(line, len(page))
         if self.most is None:
             self._hash = new_hash()
             if isinstance(self._answer, Accepted) != bool(self._length):
                 raise Nonsense
         return second + 1
 
-    def _read_answer(self, line: bytes, page: bytes) -> Answer:
-        """The answer that a line states about a page; its entries are finds if these were asked. Raises Nonsense."""
+    def _read_other(self, line: bytes, page: bytes) -> Answer:
+        """The answer that a line states about lines, or about bytes among which pages are: its entries are these.
+        Raises Nonsense."""
         if self.call == "make":
             return self._read_made(line, page)
-        if self.call != "find":
-            return read_line(line, len(page))
         match = re.fullmatch(FOUND, line)
         answer = Accepted(int(match[1])) if match else read_line(line, None)
         if isinstance(answer, Refusal) or (isinstance(answer, Accepted) and not match):

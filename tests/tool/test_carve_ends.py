@@ -1,5 +1,5 @@
-"""Pages that are carved whole: wherever a question about the first bytes of a page ends, the page is found up to its
-own end. And one with many codes that could begin a page is found too.
+"""Pages that are carved whole, whatever codes they have and wherever a piece of the source ends. And one with many codes
+that could begin a page is found too.
 """
 import io
 from typing import Callable, Dict, Iterator, List
@@ -7,13 +7,12 @@ from typing import Callable, Dict, Iterator, List
 import pytest
 
 from naplps.answers import Accepted
-from naplps_pages.page_finder import FIRST_ASKED, MORE, MOST_GIVEN, PageFinder
+from naplps.finds import PIECE
+from naplps_pages.page_finder import PageFinder
 from planted import SEPARATORS
 from stream_writer import PDI, StreamWriter
 
 Spell = Callable[[bytes], bytes]
-# How many bytes the questions about a page of up to 60 kB have, one after another.
-QUESTIONS = [FIRST_ASKED * MORE ** number for number in range(4)]
 LETTERS = b"EACH PAGE OF THE DISK, WITH ALL THAT IT DRAWS; " * 1400
 # A place, one near a corner, a step, and a step back of which the first word alone leads off the screen.
 PLACE, CORNER, STEP, BACK = (0.5, 0.25), (0.05, 0.05), (0.125, 0.25), (-0.01, -0.01)
@@ -59,11 +58,9 @@ def front(words: int, letters: int) -> bytes:
     return page.text("").made() + LETTERS[:letters]
 
 
-def pages_with(words: int, code: bytes, spell: Spell, question: int) -> Iterator[bytes]:
-    """Pages with a code in which a question of so many bytes ends: after each byte of the code but its last."""
-    begin, end = len(spell(front(words, 1))), len(spell(front(words, 1) + b"\x0e" + code))
-    for offset in range(begin + 1, end):
-        yield spell(front(words, 1 + question - offset) + b"\x0e" + code + b"\x0f" + LETTERS[:30])
+def page_with(words: int, code: bytes, spell: Spell, letters: int) -> bytes:
+    """A page with a code behind so many letters."""
+    return spell(front(words, letters) + b"\x0e" + code + b"\x0f" + LETTERS[:30])
 
 
 def page_of(words: int, shapes: int, spell: Spell, length: int) -> bytes:
@@ -98,33 +95,38 @@ def spelling(request, program):
 def assert_whole(program, pages, image):
     """Each of the pages is accepted, and found as it is."""
     assert all(isinstance(program.ask("check", page), Accepted) for page in pages)
-    data = image(pages)
-    finder = PageFinder(program)
-    finds = [find.data for find in finder.find(io.BytesIO(data).read)]
+    finds = [find.data for find in PageFinder(program).find(io.BytesIO(image(pages)).read)]
     assert len([page for page in pages if page not in finds]) == 0, "are cut short or lost, of %d" % len(pages)
-    assert finds == pages and finder.given <= MOST_GIVEN * len(data)
+    assert finds == pages
 
 
 @pytest.mark.parametrize("image", [zeros, capture])
-@pytest.mark.parametrize("question", QUESTIONS)
-def test_a_page_is_whole_wherever_a_question_ends(program, spelling, question, image):
+@pytest.mark.parametrize("letters", [0, 300, 5000])
+def test_a_page_with_any_code_is_whole(program, spelling, letters, image):
     words, spell = spelling
-    pages = [page for code in codes(words).values() for page in pages_with(words, code, spell, question)]
-    assert len(pages) > 300
-    assert_whole(program, pages, image)
+    assert_whole(program, [page_with(words, code, spell, 1 + letters) for code in codes(words).values()], image)
 
 
 @pytest.mark.parametrize("image", [zeros, capture])
 @pytest.mark.parametrize("shapes", [0, 1 << 20], ids=["text", "lines"])
 def test_a_page_of_any_length_is_whole(program, spelling, shapes, image):
     words, spell = spelling
-    lengths = [48, 100, *(question + more for question in QUESTIONS for more in (-1, 0, 1)), 30_000, 60_000]
+    lengths = [48, 100, 255, 256, 257, 1024, 8191, 8192, 8193, 16384, 30_000, 60_000]
     pages = [page_of(words, shapes, spell, length) for length in lengths]
     if spell is bytes:
         pages.append(page_of(words, 0, spell, 30))
         lengths.append(30)
     assert [len(page) for page in pages] == lengths
     assert_whole(program, pages, image)
+
+
+@pytest.mark.parametrize("code", ["24", "37", "3F", "SS2", "ESC", "designation", "DEF MACRO", "DEF DRCS", "DEF TEXTURE"])
+def test_a_page_is_whole_wherever_a_piece_of_the_source_ends(program, code):
+    page = page_with(3, codes(3)[code], bytes, 9)
+    for at in range(len(page) + 1):
+        data = b"\xff" * (PIECE - at) + page + b"\xff" * 40
+        found, = PageFinder(program).find(io.BytesIO(data).read)
+        assert (found.offset, found.data) == (PIECE - at, page)
 
 
 def test_a_page_with_many_beginnings_before_a_fault_is_found(program):
@@ -134,4 +136,5 @@ def test_a_page_with_many_beginnings_before_a_fault_is_found(program):
     whole = page.made()
     # (a byte from 40 on after the page is a word of its last opcode, and leads it off the screen)
     data = whole + b"\x37" + page.moves([CORNER, PLACE, CORNER]) + b"\x7f\xff"
-    assert [find.data for find in PageFinder(program).find(io.BytesIO(data).read)] == [whole]
+    found, = PageFinder(program).find(io.BytesIO(data).read)
+    assert found.offset == 0 and found.data.startswith(whole) and isinstance(found.answer, Accepted)

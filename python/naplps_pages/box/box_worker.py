@@ -2,13 +2,15 @@
 that is too long for a page is read once, and the pages inside it are found as they come.
 """
 import hashlib
+import io
 import os
 import re
 import sys
 from typing import IO, Any, Callable, Dict, List, Optional, Sequence, Tuple
 
-from naplps.answers import Accepted, Answer, HashedAnswer, Refusal, Unanswered
+from naplps.answers import Accepted, Answer, FindAnswer, HashedAnswer, Refusal, Unanswered
 from naplps.client import Client
+from naplps.faults import Error
 from naplps.limits import MOST_LISTED
 from naplps.names import shown
 from naplps.treating.borders import pieces
@@ -27,7 +29,7 @@ from ..collection.worker import KnownHashes, Knows, Worker
 from ..fixing.split import MOST_PAGES, has_a_page, parts_of
 from ..listing import LIST, PLACES
 from ..notes import treatment_members
-from ..page_finder import CarvedPage, PageFinder, all_pages
+from ..page_finder import CarvedPage, PageFinder
 from ..report import HELD_PLAYER
 from .kept_pages import Claims, KeptPage, KeptPart
 
@@ -62,6 +64,11 @@ class AskedOnce:
                 return answer
             self.known[key] = answer
         return self.known[key]
+
+    def find(self, data: bytes, least: int) -> FindAnswer:
+        """The pages among some bytes."""
+        self.beat()
+        return self.program.find(data, least)
 
     def forget(self) -> None:
         """Forgets all answers."""
@@ -157,8 +164,11 @@ class BoxWorker(Worker):
                 for each, it in zip(some, parts)] if has_a_page(self._ask, parts) else []
 
     def _carved(self, kept: KeptPage, data: bytes) -> KeptPage:
-        """What is kept of a refused file, with the pages inside it."""
-        found = all_pages(self.once, data)
+        """What is kept of a refused file, with the pages inside it; or with why these aren't known."""
+        try:
+            found = list(PageFinder(self.once).find(io.BytesIO(data).read))
+        except Error as unanswered:
+            return kept._replace(carved=[KeptPart(0, 0, (0, 0), "", "", str(unanswered))], cut=b"")
         return kept._replace(carved=[part_of(each) for each in found], cut=b"".join(each.data for each in found))
 
 
@@ -233,6 +243,8 @@ def _searched(source: IO[bytes], length: int, program: Client, name: str) -> Kep
         return False
     try:
         found = list(PageFinder(program, beat=beat).find(read))
+    except Error as unanswered:
+        raise NotCarved(str(unanswered)) from None
     finally:
         progress.clear()
     return KeptPage(hashed.digest(), carved=[part_of(each) for each in found],

@@ -17,6 +17,7 @@ from typing import Callable, Dict, Iterator, List, NamedTuple, Optional, Set, Tu
 
 from naplps.answers import Answer, Refusal, Unanswered, read_line
 from naplps.client import find
+from naplps.finds import LEAST_ENTRIES
 from naplps.ending import Stopped
 from naplps.limits import MOST_PAGE
 from naplps.names import Members, shown
@@ -42,7 +43,7 @@ from ..console import CHANGED, COMPLETE, FAILED, NotWritten, Output, tell, tell_
 from ..free_names import FreeNames, folds_case
 from ..new_files import make_folders, put_inside, replace
 from ..packs import pack_of
-from ..page_finder import LEAST_ENTRIES, CarvedPage
+from ..page_finder import CarvedPage
 from ..report import USUAL_SKETCHES
 from ..report.facts import load_groups
 from ..report.making import ReportOptions, TooLarge, make

@@ -30,9 +30,9 @@ ENDING = "No file is overwritten. If the search is stopped, the same command con
 
 
 def _parts() -> List[Part]:
-    from ..page_finder import LEAST_ENTRIES
-    least = Option("--min-entries", "for carve, the fewest entries of a page, a quarter of them shapes; the default "
-                   f"is {LEAST_ENTRIES}", "N", number(1, 1_000_000), default=LEAST_ENTRIES)
+    from naplps.finds import LEAST_ENTRIES
+    least = Option("--min-entries", "for carve, the fewest entries of a page; the default "
+                   f"is {LEAST_ENTRIES}. At least one draws a shape", "N", number(1, 1_000_000), default=LEAST_ENTRIES)
     return [FILES, OUT, ONLY, least, JSON_ALONE, BUDGET, TIMEOUT]
 
 

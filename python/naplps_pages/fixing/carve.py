@@ -52,6 +52,7 @@ class _Carving:
     def run(self) -> None:
         """Reads the source once for its hash, and once for its pages."""
         from naplps.client import version
+        from naplps.faults import Error
         from ..notes import carve_source, carved_before
         from ..page_finder import PageFinder
         marks = self._marks()
@@ -76,6 +77,9 @@ class _Carving:
             self.file.seek(begin)
             for found in finder.find(self._read, begin):
                 self._take(source, found)
+        except Error as unanswered:
+            session.complain(self.page.name, str(unanswered))
+            return
         finally:
             self.progress.clear()
         if self._marks() != marks:
