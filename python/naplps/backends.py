@@ -10,9 +10,7 @@ from contextlib import contextmanager
 from typing import Any, Callable, Iterator, List, NamedTuple, Optional, Protocol, Tuple, Union
 
 from . import faults
-from .answers import (
-    MEMORY, Accepted, Answer, Finds, NotAnswered, Refusal, Unanswered, WrongLine, read_finds,
-)
+from .answers import MEMORY, Accepted, Answer, Finds, NotAnswered, Refusal, Unanswered, WrongLine, read_finds
 from .client import Client, find, library
 from .faults import NoMemory, NoProgram, NotMade, Refused, Unavailable, WrongLibrary
 from .limits import MOST_PAGE, Limits

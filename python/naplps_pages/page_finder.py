@@ -1,25 +1,19 @@
 """Pages inside bytes of any kind, as the program finds them; and how much of the bytes around each may be its text."""
 import re
-from typing import Callable, Iterator, NamedTuple, Protocol
+from typing import TYPE_CHECKING, Callable, Iterator, NamedTuple, Union
 
 from naplps.answers import Answer, FindAnswer, Finds
 from naplps.finds import LEAST_ENTRIES, finds_in
 from naplps.treating import LEADING_ON
 
+if TYPE_CHECKING:
+    from naplps.client import Client
+    from .box.box_worker import AskedOnce
+
 # So many bytes before a page may be text of it; and a page that isn't told yet begins at most so many before the last
 # byte that was read.
 MOST_BEFORE, MOST_OPEN = 4096, 1 << 20
 PRINTED = re.compile(rb"[\x21-\x7e]")
-
-
-class Asks(Protocol):
-    """The program, as a client asks it."""
-
-    def ask(self, call: str, page: bytes, /) -> Answer:
-        """The answer to a call on some bytes."""
-
-    def find(self, data: bytes, least: int, /) -> FindAnswer:
-        """The pages among some bytes that have so many entries at least."""
 
 
 class CarvedPage(NamedTuple):
@@ -45,7 +39,7 @@ class PageFinder:
     """Goes through a source. `at` is how far it has come, `skipped` how many beginnings of pages weren't tried; `beat`
     may stop it."""
 
-    def __init__(self, program: Asks, least: int = LEAST_ENTRIES,
+    def __init__(self, program: "Union[Client, AskedOnce]", least: int = LEAST_ENTRIES,
                  beat: Callable[[int], bool] = lambda at: False) -> None:
         self.program, self.least, self.beat = program, least, beat
         self.at = self.skipped = 0

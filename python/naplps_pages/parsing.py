@@ -76,8 +76,7 @@ def parser_of(named: str) -> Parser:
     made.set_defaults(parser=made, run=declared.run)
     for part in declared.parts():
         if isinstance(part, Argument):
-            made.add_argument(part.to, metavar=part.title, nargs=cast(Any, part.number), type=part.read,
-                              help=part.help)
+            made.add_argument(part.to, metavar=part.title, nargs=cast(Any, part.number), type=part.read, help=part.help)
         elif isinstance(part, OneOf):
             group = made.add_mutually_exclusive_group(required=part.is_required)
             for option in part.options:

@@ -41,8 +41,7 @@ def test_a_page_has_64_mebibytes_of_memory():
     pages = (LONG.page, POINT, LONG.page, SPELLED)
     answers, memory = by_worker(*({"ask": "check", "bytes": text_of(data)} for data in pages))
     assert memory <= MAX_MEMORY
-    assert [each["told"] for each in answers] == [
-        f"accepted {LONG.entries} entries", "accepted 1 entries"] * 2
+    assert [each["told"] for each in answers] == [f"accepted {LONG.entries} entries", "accepted 1 entries"] * 2
     assert [each["canonical"] is None for each in answers] == [True, False, True, False]
     assert [each["key"] for each in answers[::2]] == ["", ""] and answers[1]["key"] == answers[3]["key"] != ""
 

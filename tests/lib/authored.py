@@ -17,8 +17,7 @@ def position(chance: Random, text: str) -> str:
     """Both numbers as fractions, or both as units, as they have to be; zero may be written either way."""
     parts = [int(part) for part in text.split(",")]
     as_fraction = chance.random() < 0.5
-    return ",".join(fraction(part) if as_fraction and (part or chance.random() < 0.5) else str(part)
-                    for part in parts)
+    return ",".join(fraction(part) if as_fraction and (part or chance.random() < 0.5) else str(part) for part in parts)
 
 
 def colour(chance: Random, text: str) -> str:

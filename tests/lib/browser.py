@@ -33,6 +33,15 @@ def _as_3_and_4(*pipes):
         os.close(each)
 
 
+def wait_for_end(process):
+    """Waits until a browser has ended, and kills it after a while."""
+    try:
+        process.wait(20)
+    except subprocess.TimeoutExpired:
+        process.kill()
+        process.wait()
+
+
 class Browser:
     """One browser with one page. It keeps what the page asked for, with which Referer, and the errors of the page."""
 
@@ -178,11 +187,7 @@ class Browser:
             self.call("Browser.close")
         except (OSError, EOFError, RuntimeError, TimeoutError):
             self.process.terminate()
-        try:
-            self.process.wait(20)
-        except subprocess.TimeoutExpired:
-            self.process.kill()
-            self.process.wait()
+        wait_for_end(self.process)
         self.waiting.close()
         os.close(self.to)
         os.close(self.of)

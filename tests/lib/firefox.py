@@ -10,6 +10,8 @@ import time
 
 from tornado.websocket import websocket_connect
 
+from browser import wait_for_end
+
 PATIENCE = 300
 # Nothing is asked of the network.
 SETTINGS = {
@@ -107,10 +109,6 @@ class Firefox:
     def close(self):
         """Ends it."""
         self.process.terminate()
-        try:
-            self.process.wait(20)
-        except subprocess.TimeoutExpired:
-            self.process.kill()
-            self.process.wait()
+        wait_for_end(self.process)
         self.loop.close()
         shutil.rmtree(self.folder, ignore_errors=True)

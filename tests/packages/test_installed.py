@@ -7,9 +7,7 @@ from typing import Dict, List, NamedTuple, Set, Tuple
 
 import pytest
 
-from debs import (
-    CLEAN, FOUND_BY_PYTHON, MULTIARCH, NAMES, Parts, contents, expected_of_program, ordinary_user,
-)
+from debs import CLEAN, FOUND_BY_PYTHON, MULTIARCH, NAMES, Parts, contents, expected_of_program, ordinary_user
 from dev.judging import Answer, run
 from dev.layout import SONAME, TOP, sources_version
 

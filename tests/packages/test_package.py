@@ -180,8 +180,7 @@ def test_missing_tools_are_named_in_one_line() -> None:
     ("debian/changelog", "naplps (", "naplps (9.", b"debian/changelog names the version 9."),
     ("VERSION", "0.", "9.", b"these sources have the version 9."),
 ])
-def test_another_version_is_refused(parts: Parts, tmp_path: Path, path: str, old: str, new: str,
-                                    reason: bytes) -> None:
+def test_another_version_is_refused(parts: Parts, tmp_path: Path, path: str, old: str, new: str, reason: bytes) -> None:
     """debian/changelog and the program have to have that of the file VERSION."""
     tree = copy_sources(tmp_path / "copy")
     (tree / path).write_text((tree / path).read_text("utf-8").replace(old, new, 1), "utf-8")

@@ -50,3 +50,9 @@ def to(tmp_path: pathlib.Path) -> str:
 def store(tmp_path: pathlib.Path) -> str:
     """The path of a store that isn't there yet."""
     return str(tmp_path / "pages.db")
+
+
+@pytest.fixture
+def pages(store: str) -> str:
+    """The folder of which a test's store is."""
+    return os.path.join(os.path.dirname(store), "pages")

@@ -1,8 +1,6 @@
-"""Pages that are carved whole, whatever codes they have and wherever a piece of the source ends. And one with many codes
-that could begin a page is found too.
-"""
+"""Pages that are carved whole, whatever codes they have and wherever a piece of the source ends."""
 import io
-from typing import Callable, Dict, Iterator, List
+from typing import Callable, Dict, List
 
 import pytest
 
@@ -120,7 +118,7 @@ def test_a_page_of_any_length_is_whole(program, spelling, shapes, image):
     assert_whole(program, pages, image)
 
 
-@pytest.mark.parametrize("code", ["24", "37", "3F", "SS2", "ESC", "designation", "DEF MACRO", "DEF DRCS", "DEF TEXTURE"])
+@pytest.mark.parametrize("code", ["24", "37", "3F", "SS2", "ESC", "designation", "DEF MACRO", "DEF DRCS"])
 def test_a_page_is_whole_wherever_a_piece_of_the_source_ends(program, code):
     page = page_with(3, codes(3)[code], bytes, 9)
     for at in range(len(page) + 1):

@@ -89,8 +89,7 @@ def test_a_bag(archive):
     shell(archive, "naplps-pages scan pages -o pages.db")
     assert scripted(archive, recipe("bag")) == ("6 written, 0 there\n", 0)
     lines = Path(archive, "bag", "manifest-sha256.txt").read_text("ascii").splitlines()
-    assert len(lines) == 6 and all(re.fullmatch(
-        r"([0-9a-f]{64})  data/[0-9a-f]{2}/\1\.nap", line) for line in lines)
+    assert len(lines) == 6 and all(re.fullmatch(r"([0-9a-f]{64})  data/[0-9a-f]{2}/\1\.nap", line) for line in lines)
 
 
 @pytest.mark.skipif(not has("git"), reason="there is no git")

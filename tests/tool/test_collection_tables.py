@@ -40,11 +40,6 @@ def store(run, tmp_path):
     return store_of(run, tmp_path, FILES)
 
 
-@pytest.fixture
-def pages(store):
-    return os.path.join(os.path.dirname(store), "pages")
-
-
 def lines(said):
     assert said.stderr == b"" and said.returncode == 0
     return said.stdout.decode("utf-8").splitlines()
@@ -158,8 +153,7 @@ NAMES = (b"a\nb", b"\x1b]0;x\x07", b"\xff", "\u202e.nap".encode(), b"a\\b", b"pl
 
 def test_names_in_csv_are_shown(run, tmp_path):
     store = store_of(run, tmp_path, {name: POINT for name in NAMES} | {b"x" + name: OUTSIDE for name in NAMES})
-    for words in (["equal", store], ["files", store, "--refused"],
-                  ["canon", store, "-o", str(tmp_path / "to")]):
+    for words in (["equal", store], ["files", store, "--refused"], ["canon", store, "-o", str(tmp_path / "to")]):
         said = run([*words, "--csv"])
         assert said.returncode == 0 and said.stdout.decode().replace("\n", "").isprintable()
         found = list(csv.DictReader(io.StringIO(said.stdout.decode())))
@@ -207,8 +201,7 @@ def test_pages_of_one_hash_and_other_bytes(fake, pages, monkeypatch):
                           [Place(os.fsencode(pages), name.encode(), len(FILES[name]))]) for name in ("a point", "cut")]
     told = []
     program = Client(fake(FAKE))
-    left = equal.verified(program, Group(b"hash", "2", 1, 11, spellings),
-                              lambda name, why: told.append((name, why)))
+    left = equal.verified(program, Group(b"hash", "2", 1, 11, spellings), lambda name, why: told.append((name, why)))
     program.close()
     assert (left.spellings, told) == (spellings[:1], [
         (pages + "/cut", "its canonical bytes differ from those of %s/a point, though the hash is the same" % pages)])

@@ -333,6 +333,5 @@ def test_a_worker_that_is_silent_before_the_scan_begins(monkeypatch, capfd, napl
     assert main(bare(["scan", top, "-o", store, "--dask", cluster.file]), COMMAND) == 0
     said = capfd.readouterr()
     silent.send_signal(signal.SIGCONT)
-    assert said.out.startswith("60 files: 60 accepted ") and re.fullmatch(
-        silence, said.err), said.err
+    assert said.out.startswith("60 files: 60 accepted ") and re.fullmatch(silence, said.err), said.err
     assert table(store) == plain(run, top, store)

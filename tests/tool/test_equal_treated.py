@@ -29,11 +29,6 @@ def store(run, tmp_path):
     return store_of(run, tmp_path, FILES, keeps="repair")
 
 
-@pytest.fixture
-def pages(store):
-    return os.path.join(os.path.dirname(store), "pages")
-
-
 def groups(said, pages):
     """The groups as they are printed: the heads without hashes, and the files without the folder."""
     assert (said.stderr, said.returncode) == (b"", 0)

@@ -48,8 +48,7 @@ def test_pages_and_pictures_are_put_into_a_folder(run, tmp_path, to):
     assert (said.returncode, said.stdout, said.stderr) == (0, b"", b"")
     assert run(["make", "-", "-o", to], b"BELL").returncode == 0
     made = files_in(to)
-    assert sorted(made) == [
-        b"a.b/other.nap", b"a.b/other.nap.svg", b"notice.nap", b"notice.nap.svg", b"page.nap"]
+    assert sorted(made) == [b"a.b/other.nap", b"a.b/other.nap.svg", b"notice.nap", b"notice.nap.svg", b"page.nap"]
     assert made[b"notice.nap"] == run(["make", names[0]]).stdout
     assert made[b"notice.nap.svg"] == run(["make", names[0], "--format", "svg"]).stdout
     assert made[b"page.nap"] == bytes.fromhex("0E215F07")

@@ -187,8 +187,7 @@ def test_stores_that_may_have_the_same_files(run, fake, here):
     for one, other, folder in (("whole.db", "again.db", "pages"), ("whole.db", "a.db", "pages/a"),
                                ("0.db", "copy.db", "pages"), ("0.db", "third.db", "pages"),
                                ("whole.db", "0.db", "pages"), ("1.db", "1.db", "pages")):
-        refused(run, ["all.db", one, other],
-                "%s: may hold the same files as %s, of %s/%s" % (other, one, here, folder))
+        refused(run, ["all.db", one, other], "%s: may hold the same files as %s, of %s/%s" % (other, one, here, folder))
         said = run(["equal", one, other, "--skip", "copies"])
         assert (said.returncode, said.stdout) == (3, b"") and b" may hold the same files as " in said.stderr
 

@@ -69,8 +69,7 @@ def test_a_class_of_the_callers_own_changes_nothing(kind, lie, naplps):
     program = PROGRAM % {"packages": PACKAGES, "library": library, "page": POINT_AND_BELL,
                          "lie": LIES[lie].replace("\n", "\n    ")}
     named = {"NAPLPS_LIBRARY": library_path()} if library else {"NAPLPS_LIBRARY": "", "NAPLPS": naplps}
-    run = subprocess.run([sys.executable, "-c", program], env=dict(os.environ, **named), capture_output=True,
-                         text=True)
+    run = subprocess.run([sys.executable, "-c", program], env=dict(os.environ, **named), capture_output=True, text=True)
     assert (run.returncode, run.stderr) == (0, "")
     calls = 11 if library else 9
     assert int(run.stdout) == 2 * 3 * calls + calls

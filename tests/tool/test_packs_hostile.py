@@ -298,8 +298,7 @@ def test_a_bomb(naplps, at, make, request):
     path = make(os.path.join(at, "bomb.zip" if "zip" in kind else "bomb.tar.gz"), SIZE)
     assert os.path.getsize(path) < 16 << 20
     store = os.path.join(at, "pages.db")
-    ran, memory = with_peak([COMMAND, "scan", path, "-o", store, "--jobs", "1"],
-                            env=dict(os.environ, NAPLPS=naplps))
+    ran, memory = with_peak([COMMAND, "scan", path, "-o", store, "--jobs", "1"], env=dict(os.environ, NAPLPS=naplps))
     status, said = ran.returncode, ran.stderr.decode()
     assert memory < 64 << 20 and "Traceback" not in said
     if kind in ("tar.gz", "zip"):

@@ -52,8 +52,7 @@ def test_eight_parts_merged_are_one_scan(run, pages, tmp_path):
     tree(pages, {"new": POINT})
     said = run(["scan", pages, "-o", into])
     assert said.stdout.startswith(b"303 files: ") and b"; 302 known, 0 pages asked about\n" in said.stdout
-    assert sorted(os.listdir(str(tmp_path))) == sorted(
-        ["pages", "all.db", "one.db", *map(os.path.basename, stores)])
+    assert sorted(os.listdir(str(tmp_path))) == sorted(["pages", "all.db", "one.db", *map(os.path.basename, stores)])
 
 
 def test_a_part_goes_on_as_itself_alone(run, fake, pages, tmp_path):

@@ -145,8 +145,7 @@ def test_a_file_by_itself(run, pages, store):
         assert said.stdout.startswith(b"1 file: 1 accepted (1 page), 0 refused; 0 known, ")
         assert statuses(store) == {"one.nap": ("accepted", None)}
         assert rows(store, "SELECT DISTINCT path FROM roots") == [(os.fsencode(name),)]
-    assert run(["scan", pages, "-o", store]).stdout.startswith((
-        b"7 files: 5 accepted (5 pages), 2 refused; 1 known, "))
+    assert run(["scan", pages, "-o", store]).stdout.startswith((b"7 files: 5 accepted (5 pages), 2 refused; 1 known, "))
     before = table(store)
     tree(pages, {"one.nap": OUTSIDE})
     for each in ("sub", "a"):

@@ -47,8 +47,7 @@ def linked_above(sub, outside):
 
 def read_by_worker(fake, chunk, elsewhere=False):
     """The files of a chunk as a worker reads them, by their names."""
-    return {file.name: (file.state, file.why, file.own)
-            for file in files_read(fake(FAKE), chunk, elsewhere=elsewhere)}
+    return {file.name: (file.state, file.why, file.own) for file in files_read(fake(FAKE), chunk, elsewhere=elsewhere)}
 
 
 @pytest.mark.parametrize("change", [replaced_by_link, replaced_by_folder, linked_above])
@@ -98,8 +97,7 @@ def test_a_folder_outside_that_has_the_same_number_is_not_read(fake, exchanged):
     """On another machine devices have other numbers, so that of a folder says little there."""
     met, number = exchanged
     met = [each._replace(identity=each.identity._replace(inode=number)) for each in met if b"sub" in each.path]
-    assert read_by_worker(fake, met, elsewhere=True) == {
-        name: (tables.CHANGED, REPLACED, None) for name in (b"b", b"")}
+    assert read_by_worker(fake, met, elsewhere=True) == {name: (tables.CHANGED, REPLACED, None) for name in (b"b", b"")}
 
 
 def test_files_that_wait_are_read_in_the_folder_that_was_named(fake, exchanged, tmp_path):
@@ -176,8 +174,7 @@ def test_of_the_broken_members_of_a_pack_the_first_are_named(run, tmp_path, stor
     os.mkdir(folder)
     few, many = (written(os.path.join(folder, name), broken_zip(number)) for name, number in (
         ("few.zip", MAX_BROKEN), ("many.zip", 500)))
-    wanted = ["naplps-pages: %s!%04d: it is encrypted" % (path, at) for path in (few, many)
-              for at in range(MAX_BROKEN)]
+    wanted = ["naplps-pages: %s!%04d: it is encrypted" % (path, at) for path in (few, many) for at in range(MAX_BROKEN)]
     wanted.append("naplps-pages: %s: 500 of its members couldn't be read, of which 20 are named; `files` names all"
                   % many)
     for _ in range(2):

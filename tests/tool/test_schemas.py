@@ -32,11 +32,6 @@ def store(run, tmp_path):
 
 
 @pytest.fixture
-def pages(store):
-    return os.path.join(os.path.dirname(store), "pages")
-
-
-@pytest.fixture
 def old(store, tmp_path):
     return earlier(store, str(tmp_path / "old.db"))
 

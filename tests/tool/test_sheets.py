@@ -168,8 +168,7 @@ def test_where_librsvg_fails_there_is_a_message(run, tmp_path, monkeypatch, text
 
 
 def test_a_page_refused_before_anything_is_drawn_is_no_black_page(run, tmp_path):
-    names = [file(tmp_path, name, data)
-             for name, data in (("cut", b"\x1b"), ("some", POINT + b"\x1b"), ("blank", b""))]
+    names = [file(tmp_path, name, data) for name, data in (("cut", b"\x1b"), ("some", POINT + b"\x1b"), ("blank", b""))]
     run(["show", *map(os.path.basename, names), "-o", "sheet.svg"], cwd=str(tmp_path))
     for (told, picture), fill in zip(tiles(read(tmp_path / "sheet.svg")), ("#2b3238", "#000000", "#000000")):
         assert picture.find(SVG + "rect").attrib["fill"] == fill, told

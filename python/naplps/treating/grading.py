@@ -34,8 +34,7 @@ def _regrade(change: Change, data: bytes, has_bits: bool) -> Change:
         return change
     rule, guess = RULES[change.treatment]
     cut = b"".join(change.taken(data))
-    return change if rule(cut.translate(PLAIN) if has_bits else cut) else replace(
-        change, treatment=guess, grade=WITHIN)
+    return change if rule(cut.translate(PLAIN) if has_bits else cut) else replace(change, treatment=guess, grade=WITHIN)
 
 
 def _is_before(data: bytes) -> bool:

@@ -44,7 +44,7 @@ def _is_in_order(parts: List[KeptPart], length: Optional[int]) -> bool:
     """Whether each part begins where the one before it ends or later, and the last ends within a length."""
     end = 0
     for part in parts:
-        if part.offset < end or not part.length:
+        if part.offset < end or not (part.length or part.why):
             return False
         end = part.offset + part.length
     return length is None or end <= length

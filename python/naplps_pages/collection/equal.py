@@ -510,8 +510,7 @@ def _apart(connection: sqlite3.Connection, copies: bool) -> Iterator[Group]:
     yield from apart(connection, copies)
 
 
-def _verified(program: Client, some: Iterator[Group], copies: bool,
-              telling: ErrorReporter) -> Iterator[Group]:
+def _verified(program: Client, some: Iterator[Group], copies: bool, telling: ErrorReporter) -> Iterator[Group]:
     for group in some:
         left = verified(program, group, telling)
         if len(left.spellings) > 1 or copies and left.files > 1 or left.spellings and left.others:

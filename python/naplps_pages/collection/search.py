@@ -382,8 +382,7 @@ class Search:
         folder, was_known = self.writer.folder(inside(path), READ, None)
         known: Optional[PackState] = None
         if was_known and not self.scope.retry.again:
-            known = settled(self.writer.connection, folder, self._marks(name, descriptor),
-                            self._asked, self.scope.most)
+            known = settled(self.writer.connection, folder, self._marks(name, descriptor), self._asked, self.scope.most)
         if known is None:
             return folder, inside(path), iter((b"",)), which
         self.known += known.members

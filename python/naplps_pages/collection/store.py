@@ -281,8 +281,7 @@ def _check(path: str, connection: sqlite3.Connection) -> int:
             schema=schema[0] if schema else "unknown", earlier=tables.EARLIER, known=tables.SCHEMA))
     made = connection.execute("SELECT value FROM meta WHERE key = 'hash'").fetchone()
     if made != (tables.HASH,):
-        raise StoreFailed(path, messages.OTHER_HASHES.format(
-            hash=made[0] if made else "nothing", known=tables.HASH))
+        raise StoreFailed(path, messages.OTHER_HASHES.format(hash=made[0] if made else "nothing", known=tables.HASH))
     return int(schema[0])
 
 

@@ -171,8 +171,7 @@ PREVIOUS = Option("--previous", "a page that came before, whose macros, colours 
                   "there; repeat it for several, in their order", "PAGE", completes=FILES, is_repeated=True)
 BUDGET = Option("--budget", f"how many bytes of macros a page may expand, 0 to {MOST_BUDGET}; the default is "
                 f"{USUAL_BUDGET}", "N", number(0, MOST_BUDGET), default=USUAL_BUDGET)
-TIMEOUT = Option("--timeout", "how many seconds a page may take; the default is 20", "SECONDS",
-                 seconds, default=20.0)
+TIMEOUT = Option("--timeout", "how many seconds a page may take; the default is 20", "SECONDS", seconds, default=20.0)
 JOBS = Option("--jobs", "how many processes to use; the default is one per processor", "N", number(1, MOST_PROCESSES),
               short="-j")
 OUTPUT = Option("--output", "", "OUT", completes=FILES, short="-o")

@@ -3,9 +3,7 @@ from typing import List
 
 from .. import messages
 from ..console import NotWritten
-from . import (
-    BUDGET, COLLECTION_GROUP, FOLDERS, JOBS, OUTPUT, TIMEOUT, Argument, Command, Given, Part, skipped,
-)
+from . import BUDGET, COLLECTION_GROUP, FOLDERS, JOBS, OUTPUT, TIMEOUT, Argument, Command, Given, Part, skipped
 
 SOURCES = Argument("folders", "FOLDER", "a folder of files, a pack of files (.zip, .tar, .tar.gz or .tgz), or a file",
                    "+")

@@ -1,9 +1,7 @@
 """The command equal: groups of pages that draw the same, or almost the same."""
 from typing import List
 
-from . import (
-    COLLECTION_GROUP, CSV, JOBS, JSON, PRINT0, STORE, TIMEOUT, Command, Given, OneOf, Option, Part,
-)
+from . import COLLECTION_GROUP, CSV, JOBS, JSON, PRINT0, STORE, TIMEOUT, Command, Given, OneOf, Option, Part
 
 STORES = STORE._replace(to="stores", help=f"{STORE.help}; several are taken as one", number="+")
 NEARLY = Option("--nearly", "print pages that differ only in words, colours or places, and pages that are the "

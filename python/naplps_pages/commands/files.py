@@ -17,8 +17,7 @@ if TYPE_CHECKING:
 REFUSED = Option("--refused", "print refused files alone, by reason", default=False)
 KIND = Option("--kind", "print each file of a kind: page, text, blank, capture, or a format that refused files look "
               "like, such as GIF; or any", "KIND")
-CENSUS = Option("--census", "count the codes for which pages are refused",
-                default=False)
+CENSUS = Option("--census", "count the codes for which pages are refused", default=False)
 ANY = "any"
 
 
@@ -28,8 +27,7 @@ def reason(text: str) -> Reason:
     found = refusals.reason_of(text)
     if found is None:
         codes = ", ".join(f"{code.upper()} {title}" for code, title in refusals.CODES.items())
-        raise argparse.ArgumentTypeError(
-            messages.NO_REASON.format(text=text, known=_refusals(), codes=codes))
+        raise argparse.ArgumentTypeError(messages.NO_REASON.format(text=text, known=_refusals(), codes=codes))
     return found
 
 

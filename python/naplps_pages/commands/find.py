@@ -46,5 +46,4 @@ def _find(given: Given) -> int:
     return status
 
 
-COMMAND = Command("find pages by their words", _parts, _run, "find harbour pages.db",
-                  group=COLLECTION_GROUP, rank=40)
+COMMAND = Command("find pages by their words", _parts, _run, "find harbour pages.db", group=COLLECTION_GROUP, rank=40)

@@ -64,8 +64,7 @@ class _Carving:
         if session.into is not None:
             self.stem = session.path_for(self.page.name)
             folder, name = os.path.split(self.stem)
-            terms = [sha256, self.length, session.min_entries,
-                     version(session.program.path, session.program.limits)]
+            terms = [sha256, self.length, session.min_entries, version(session.program.path, session.program.limits)]
             self.state = CarveState(os.path.join(folder, state_name(name)), shown(self.page.name), terms)
             begin = self.state.load(self.length)
             self.found = carved_before(self.stem, begin)
@@ -183,8 +182,7 @@ def state_name(name: str) -> str:
 
 
 class CarveState:
-    """The file that has how far the search of one source is, by its hash and length, what was asked for, and by which
-    program."""
+    """The file that has how far the search of one source is, by its hash and length, what was asked, and by whom."""
 
     def __init__(self, path: str, source: str, terms: List[object]) -> None:
         self.path, self.source, self.terms = path, source, terms

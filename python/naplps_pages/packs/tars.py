@@ -378,8 +378,7 @@ def _padded(size: int) -> int:
 
 # How far what follows the end is looked through.
 MOST_BEHIND = 1 << 20
-KINDS = {LINK: "a symbolic link", HARD_LINK: "a hard link", FIFO: "a fifo",
-         CHARACTERS: "a device", BLOCKS: "a device"}
+KINDS = {LINK: "a symbolic link", HARD_LINK: "a hard link", FIFO: "a fifo", CHARACTERS: "a device", BLOCKS: "a device"}
 
 
 class Tar:

@@ -145,8 +145,7 @@ class Roots:
     """The folders that were scanned. Where there are several, each has a name, which comes first."""
 
     def __init__(self, paths: List[bytes]) -> None:
-        outer = [path for path in sorted(paths) if not any(
-            other != path and is_within(path, other) for other in paths)]
+        outer = [path for path in sorted(paths) if not any(other != path and is_within(path, other) for other in paths)]
         self.names: List[Tuple[bytes, str]] = list(zip(outer, _different([_leaf(path) for path in outer])))
 
     def relative(self, folder: bytes) -> str:

@@ -273,8 +273,7 @@ class Questions:
         for each in self.near.of(file):
             place = one(self.connection.execute(OF_CANON, (each.canon,)).fetchone(), FileNumber)
             rows = self.connection.execute(ONE, place).fetchall() if place else []
-            found += [{"key": key_of(other), "name": self._name(other), "told": each.text}
-                      for other in files_of(rows)]
+            found += [{"key": key_of(other), "name": self._name(other), "told": each.text} for other in files_of(rows)]
         return found
 
     def drawing_task(self, words: Words) -> Optional[DrawingTask]:
