@@ -35,6 +35,21 @@ class File(NamedTuple):
 LINK = 0o120777
 
 
+class Places(NamedTuple):
+    """Where a library stands under a prefix: the folders of its own files, of the header and of the file for
+    pkg-config, with slashes after it; and that prefix, as this file tells it."""
+
+    own: str
+    header: str
+    config: str
+    prefix: str
+
+
+# Beside one another; and under a prefix that may be anywhere.
+TOGETHER = Places("", "", "", "${pcfiledir}")
+INSTALLED = Places("lib/", "include/", "lib/pkgconfig/", "${pcfiledir}/../..")
+
+
 RULES = (
     Rule("pages", "naplps-pages", "bin", 0o755),
     Rule("python", "naplps_pages/**/*", "lib/naplps"),
@@ -111,6 +126,21 @@ def find_library() -> Path:
     if not (Path(named) / SONAME).is_file():
         raise stop(f"NAPLPS_LIBRARY names no folder with a library: {named}")
     return Path(named)
+
+
+def library_files(folder: Path, version: str, places: Places = TOGETHER) -> Dict[str, File]:
+    """Each file of a library that a folder has, by its path under the prefix."""
+    folders = {"libdir": f"${{prefix}}/{places.own}", "includedir": f"${{prefix}}/{places.header}"}
+    config = (LIBRARY / "naplps.pc").read_text("ascii")
+    for name, text in {"prefix": places.prefix, **folders, "version": version}.items():
+        config = config.replace(f"@{name}@", text.rstrip("/"))
+    return {
+        f"{places.own}libnaplps.a": File((folder / "libnaplps.a").read_bytes(), 0o644),
+        f"{places.own}{SONAME}": File((folder / SONAME).read_bytes(), 0o644),
+        f"{places.own}libnaplps.so": File(SONAME.encode(), LINK),
+        f"{places.header}naplps.h": File((LIBRARY / "naplps.h").read_bytes(), 0o644),
+        f"{places.config}naplps.pc": File(config.encode(), 0o644),
+    }
 
 
 def manual_page(text: bytes) -> bytes:

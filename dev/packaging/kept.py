@@ -1,14 +1,17 @@
 """The kept program and the kept parts of the library for C, in dist, and what MADE beside them says."""
 import hashlib
+import os
 import re
 import shutil
 import subprocess
+import sys
 from pathlib import Path
-from typing import Dict, List, Optional
+from typing import Dict, List, Optional, Tuple
 
 from dev.crates import below, crates_in
 from dev.layout import TOP
 from dev.packaging.keeping import keeping
+from dev.packaging.made import read_made
 from dev.rattle.sums import Unread, sum_of
 
 KEPT = TOP / "dist" / "x86_64-linux-gnu"
@@ -82,6 +85,20 @@ def archive() -> Path:
     folder = TOP / "crates" / "nap_c"
     ask("rt", "lib", folder=folder, errors=subprocess.STDOUT)
     return folder / "out" / ARCHIVE
+
+
+def kept_library() -> Optional[Tuple[Path, Path]]:
+    """The kept archive and that for the heap, where they were made from the sources that stand here."""
+    made, files = read_made(MADE), (KEPT / ARCHIVE, KEPT / HEAP)
+    if os.environ.get("NAPLPS_REBUILD") == "1" or not all(path.is_file() for path in files):
+        return None
+    if made.get("library-sources") != sources_sum("nap_c"):
+        return None
+    if not all(file_sum(path) == made.get(path.name) for path in files):
+        print(f"{Path(sys.argv[0]).name}: {KEPT} has other bytes than its MADE says: the library is proved and built",
+              file=sys.stderr)
+        return None
+    return files
 
 
 def archive_after_gate() -> Path:
